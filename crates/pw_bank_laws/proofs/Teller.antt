@@ -343,4 +343,4 @@ module _ (screens : List ScreenTable) (bank : BankChoices) where
       no-text rest17 sized17 (λ xs. Entered registers (done ∷ message ∷ from ∷ to ∷ amount ∷ op ∷ account ∷ other ∷ posted ∷ answer ∷ payer ∷ a ∷ b ∷ c ∷ d ∷ before ∷ e ∷ f ∷ xs)) (entered-meets done message from to amount op account other posted answer payer a b c d before e f registers long4)))))))))))))))))))
 
   pub teller-meets : ProgramMeets (teller_bank screens bank) (teller_program screens) teller_sizes Balance
-  teller-meets = λ all registers sized. (λ others after_registers others_sized. request-meets others after_registers others_sized, tt)
+  teller-meets = (0, λ all registers sized. (λ others after_registers others_sized. request-meets others after_registers others_sized, tt))

@@ -1,3 +1,4 @@
+pub mod Amounts
 pub mod Parts
 pub mod Texts
 pub mod Totals

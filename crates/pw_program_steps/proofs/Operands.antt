@@ -5,44 +5,66 @@ use Rattle.pw_forms.specs.declared.cond.ComparisonForm.{ComparisonForm}
 use Rattle.pw_forms.specs.declared.cond.ComparisonForm.TheVariants as comparison
 use Rattle.pw_forms.specs.declared.operand.Operand.{Operand}
 use Rattle.pw_forms.specs.declared.operand.Operand.TheVariants as operands
+use Rattle.pw_forms.specs.declared.operand.Subscript.{Subscript}
+use Rattle.pw_forms.specs.declared.operand.Subscript.TheVariants as subscripts
 use Rattle.pw_program_steps.proofs.Texts.{value_in-texts}
 use Rattle.pw_program_steps.specs.Known.{IsKnownAt, KnownMoment}
-use Rattle.pw_program_steps.specs.Meets.{AllMeet, AnyMeets, ComparisonMeets, WithAllKnown, WithKnown}
+use Rattle.pw_program_steps.specs.Meets.{AllMeet, AnyMeets, ComparisonMeets, WithAllKnown, WithKnown, WithTaken, known_subscript}
 use Rattle.pw_program_steps.specs.Texts.{said}
 use Rattle.pw_tree_meaning.specs.Conditions.{any_holds, all_hold, compared, comparison_holds, condition_turned, holds_by, is_numeric, of_both, of_one, of_two}
-use Rattle.pw_tree_meaning.specs.Operands.{ResolvedOperand, Fixed, one_more, operand_taken, plain, taken_all, taken_item, value_in}
+use Rattle.pw_tree_meaning.specs.Operands.{ResolvedOperand, Fixed, one_more, operand_taken, plain, subscript_value, taken_all, taken_item, value_in}
 use Rattle.pw_tree_meaning.specs.Program.{Program, item_named}
 use Rattle.pw_tree_meaning.specs.State.{ProgramState, Registers}
-use Rattle.pw_tree_meaning.specs.Values.{Number', Spaces', Text', Zeros'}
+use Rattle.pw_tree_meaning.specs.Values.{Number', Spaces', Text', Zeros', number_in, number_of, whole_part}
 use Rattle.pw_words.specs.Words.{Word}
 
 taken-plain : (o : Option Item) (registers : Registers) (name : Word) → taken_item o registers name None ≡ Some (plain o registers name)
 taken-plain None registers name = refl
 taken-plain (Some item) registers name = refl
 
-module _ (program : Program) (registers : Registers) where
+module _ (program : Program) (sizes : List ℕ) (k : KnownMoment) where
+  -- a subscript has its value
+  subscript-known : (subscript : Subscript) (s : ProgramState) → IsKnownAt sizes k s → subscript_value program s subscript ≡ known_subscript program sizes k subscript
+  subscript-known (subscripts.Number spelling) s known = refl
+  subscript-known (subscripts.Item name) s known =
+      ap (λ (r : Registers). whole_part (number_of (value_in (plain (item_named program name) r name) s.store))) known.registers
+      ∙ ap (λ v. whole_part (number_of v)) (value_in-texts (plain (item_named program name) k.registers name) sizes s.store k.texts known.texts known.sized)
+
+  occurrence-known : (o : Option ResolvedOperand) (P : ResolvedOperand → Type 0) → WithTaken program sizes k o P
+      → (found : ResolvedOperand) × (o ≡ Some found) × P found
+  occurrence-known None P now = absurd now
+  occurrence-known (Some found) P now = (found, refl, now)
+
   -- an operand is taken as it is known
-  pub known-taken : (operand : Operand) (P : ResolvedOperand → Type 0) → WithKnown program registers operand P
-      → (found : ResolvedOperand) × ((s : ProgramState) → s.registers ≡ registers → operand_taken program s operand ≡ Some found) × P found
+  pub known-taken : (operand : Operand) (P : ResolvedOperand → Type 0) → WithKnown program sizes k operand P
+      → (found : ResolvedOperand) × ((s : ProgramState) → IsKnownAt sizes k s → operand_taken program s operand ≡ Some found) × P found
   known-taken (operands.Item name None) P now = (
-    plain (item_named program name) registers name,
-    λ s is. ap (λ r. taken_item (item_named program name) r name None) is ∙ taken-plain (item_named program name) registers name,
+    plain (item_named program name) k.registers name,
+    λ s known. ap (λ r. taken_item (item_named program name) r name None) known.registers ∙ taken-plain (item_named program name) k.registers name,
     now,
   )
-  known-taken (operands.Item name (Some subscript)) P now = absurd now
-  known-taken (operands.Number spelling) P now = (Fixed (Number' spelling), λ s is. refl, now)
-  known-taken (operands.Text chars) P now = (Fixed (Text' chars), λ s is. refl, now)
-  known-taken operands.Spaces P now = (Fixed Spaces', λ s is. refl, now)
-  known-taken operands.Zeros P now = (Fixed Zeros', λ s is. refl, now)
+  known-taken (operands.Item name (Some subscript)) P now =
+      let x = occurrence-known (taken_item (item_named program name) k.registers name (Some (known_subscript program sizes k subscript))) P now in (
+        x.0,
+        λ s known.
+            ap (λ r. taken_item (item_named program name) r name (Some (subscript_value program s subscript))) known.registers
+            ∙ ap (λ n. taken_item (item_named program name) k.registers name (Some n)) (subscript-known subscript s known)
+            ∙ x.1,
+        x.2,
+      )
+  known-taken (operands.Number spelling) P now = (Fixed (Number' spelling), λ s known. refl, now)
+  known-taken (operands.Text chars) P now = (Fixed (Text' chars), λ s known. refl, now)
+  known-taken operands.Spaces P now = (Fixed Spaces', λ s known. refl, now)
+  known-taken operands.Zeros P now = (Fixed Zeros', λ s known. refl, now)
 
-  pub all-taken : (all : List Operand) (P : List ResolvedOperand → Type 0) → WithAllKnown program registers all P
-      → (found : List ResolvedOperand) × ((s : ProgramState) → s.registers ≡ registers → taken_all program s all ≡ Some found) × P found
-  all-taken [] P now = ([], λ s is. refl, now)
+  pub all-taken : (all : List Operand) (P : List ResolvedOperand → Type 0) → WithAllKnown program sizes k all P
+      → (found : List ResolvedOperand) × ((s : ProgramState) → IsKnownAt sizes k s → taken_all program s all ≡ Some found) × P found
+  all-taken [] P now = ([], λ s known. refl, now)
   all-taken (operand ∷ rest) P now =
-      let one = known-taken operand (λ x. WithAllKnown program registers rest (λ xs. P (x ∷ xs))) now in
+      let one = known-taken operand (λ x. WithAllKnown program sizes k rest (λ xs. P (x ∷ xs))) now in
       let others = all-taken rest (λ xs. P (one.0 ∷ xs)) one.2 in (
         one.0 ∷ others.0,
-        λ s is. ap (λ x. one_more x (taken_all program s rest)) (one.1 s is) ∙ ap (λ xs. one_more (Some one.0) xs) (others.1 s is),
+        λ s known. ap (λ x. one_more x (taken_all program s rest)) (one.1 s known) ∙ ap (λ xs. one_more (Some one.0) xs) (others.1 s known),
         others.2,
       )
 
@@ -59,23 +81,23 @@ module _ (program : Program) (sizes : List ℕ) (k : KnownMoment) (s : ProgramSt
   comparison-known : (c : ComparisonForm) (P : Bool → Type 0) → ComparisonMeets program sizes k c P
       → (b : Bool) × (comparison_holds program s c ≡ Some b) × P b
   comparison-known (comparison.Compare left negated op right) P now =
-      let a = known-taken program k.registers left
-      (λ a. WithKnown program k.registers right (λ b. P (condition_turned negated (holds_by op (compared (said sizes k.texts a) (said sizes k.texts b)))))) now in
-      let b = known-taken program k.registers right
+      let a = known-taken program sizes k left
+      (λ a. WithKnown program sizes k right (λ b. P (condition_turned negated (holds_by op (compared (said sizes k.texts a) (said sizes k.texts b)))))) now in
+      let b = known-taken program sizes k right
       (λ b. P (condition_turned negated (holds_by op (compared (said sizes k.texts a.0) (said sizes k.texts b))))) a.2 in
       let test : ResolvedOperand → ResolvedOperand → Bool =
       λ x y. condition_turned negated (holds_by op (compared (value_in x s.store) (value_in y s.store))) in (
         condition_turned negated (holds_by op (compared (said sizes k.texts a.0) (said sizes k.texts b.0))),
-        ap (λ x. of_two test x (operand_taken program s right)) (a.1 s known.registers)
-            ∙ ap (λ y. of_two test (Some a.0) y) (b.1 s known.registers)
+        ap (λ x. of_two test x (operand_taken program s right)) (a.1 s known)
+            ∙ ap (λ y. of_two test (Some a.0) y) (b.1 s known)
             ∙ ap (λ x. Some (condition_turned negated (holds_by op (compared x (value_in b.0 s.store))))) (value_in-texts a.0 sizes s.store k.texts known.texts known.sized)
             ∙ ap (λ y. Some (condition_turned negated (holds_by op (compared (said sizes k.texts a.0) y)))) (value_in-texts b.0 sizes s.store k.texts known.texts known.sized),
         b.2,
       )
   comparison-known (comparison.Numeric operand negated) P now =
-      let a = known-taken program k.registers operand (λ a. P (condition_turned negated (is_numeric (said sizes k.texts a)))) now in (
+      let a = known-taken program sizes k operand (λ a. P (condition_turned negated (is_numeric (said sizes k.texts a)))) now in (
         condition_turned negated (is_numeric (said sizes k.texts a.0)),
-        ap (λ x. of_one (λ y. condition_turned negated (is_numeric (value_in y s.store))) x) (a.1 s known.registers)
+        ap (λ x. of_one (λ y. condition_turned negated (is_numeric (value_in y s.store))) x) (a.1 s known)
             ∙ ap (λ x. Some (condition_turned negated (is_numeric x))) (value_in-texts a.0 sizes s.store k.texts known.texts known.sized),
         a.2,
       )

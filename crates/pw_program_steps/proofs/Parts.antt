@@ -3,13 +3,14 @@ use Rattle.std.proofs.Common.{◌≡◌, ℕ, zero, suc, ◌-◌, ◌≤◌, Boo
 use Rattle.std.specs.Prelude.{bytes_eq}
 use Rattle.std.specs.Ordering.{is_eq}
 use Rattle.std.proofs.lemmas.Cmp.{nat_list_cmp_total, tied_itself}
-use Rattle.std.proofs.lemmas.List.{append-nil, drop-append-le, take-append-le, take_all}
+use Rattle.std.proofs.lemmas.List.{append-nil, drop-append-le, length-take, take-append-le, take-take, take_all}
 use Rattle.std.proofs.lemmas.Map.Lookups.{exact_bytes}
 use Rattle.std.proofs.lemmas.Map.Text.{is_eq-slice_cmp}
 use Rattle.pw_base.proofs.Plain.{is_eq-Equal}
 use Rattle.pw_files.specs.Records.{key_cmp}
 use Rattle.pw_picture.specs.Stored.{digits_of}
 use Rattle.pw_picture.specs.Text.{fitted}
+use Rattle.pw_program_steps.proofs.Texts.{length-fitted}
 
 pub fitted-within : (n : ℕ) (xs : List ℕ) → n ≤ length xs → fitted n xs ≡ take n xs
 fitted-within n xs within =
@@ -33,6 +34,15 @@ drop-whole n xs long = subst (λ m. drop m xs ≡ []) long (drop-own xs)
 -- and those behind it
 pub drop-first : (n : ℕ) (xs ys : List ℕ) → length xs ≡ n → drop n (xs ++ ys) ≡ ys
 drop-first n xs ys long = drop-append-le n xs ys (omega (arith, long)) ∙ ap (λ zs. zs ++ ys) (drop-whole n xs long)
+
+-- the key of a content that is read into an item, and then into the first part of it
+pub key-fitted : (n size : ℕ) (content key : List ℕ) → n ≤ size → length key ≡ n → take n content ≡ key → fitted n (fitted size content) ≡ key
+key-fitted n size content key le long own =
+    let enough : n ≤ length content = omega (arith, length-take n content, ap length own, long) in
+    fitted-within n (fitted size content) (omega (arith, le, length-fitted size content))
+    ∙ take-append-le n (take size content) (replicate (size - length content) 32) (omega (arith, le, enough, length-take size content))
+    ∙ take-take n size content le
+    ∙ own
 
 pub length-digits : (count size : ℕ) → length (digits_of count size) ≡ count
 length-digits zero size = refl

@@ -115,17 +115,17 @@ module _ (deck : DeckModel) (program : Program) (sizes message : List ℕ) (repl
       → (k : KnownMoment) → ArithmeticMeets deck program sizes message replies a fails goes k
       → (s : ProgramState) → IsKnownAt sizes k s → EndsWell replies (Follows next) (arithmetic_on program a on_error else' s)
   arithmetic-ends a fails goes next on_error else' failing going k now s known =
-      let x = known-taken program k.registers a.first _ now in
-      let y = known-taken program k.registers a.second _ x.2 in
-      let z = known-taken program k.registers (receiver_of a) _ y.2 in
+      let x = known-taken program sizes k a.first _ now in
+      let y = known-taken program sizes k a.second _ x.2 in
+      let z = known-taken program sizes k (receiver_of a) _ y.2 in
       let spot : Spot = spot_in z.0 in
       let result : Value → Value → Result Number SizeError = λ u v. operated a.operation (receiver_decimals spot.picture) (number_of u) (number_of v) in
       let end : Value → Value → Type 0 = λ u v. EndsWell replies (Follows next) (or_else (stored_in spot (result u v) s) s on_error else') in
       let first : said sizes k.texts x.0 ≡ value_in x.0 s.store = sym (value_in-texts x.0 sizes s.store k.texts known.texts known.sized) in
       let second : said sizes k.texts y.0 ≡ value_in y.0 s.store = sym (value_in-texts y.0 sizes s.store k.texts known.texts known.sized) in
-      taken-well replies (Follows next) (operand_taken program s a.first) x.0 s _ (x.1 s known.registers)
-      (taken-well replies (Follows next) (operand_taken program s a.second) y.0 s _ (y.1 s known.registers)
-      (taken-well replies (Follows next) (operand_taken program s (receiver_of a)) z.0 s _ (z.1 s known.registers)
+      taken-well replies (Follows next) (operand_taken program s a.first) x.0 s _ (x.1 s known)
+      (taken-well replies (Follows next) (operand_taken program s a.second) y.0 s _ (y.1 s known)
+      (taken-well replies (Follows next) (operand_taken program s (receiver_of a)) z.0 s _ (z.1 s known)
       (subst (λ u. end u (value_in y.0 s.store)) first
       (subst (λ v. end (said sizes k.texts x.0) v) second
       (stored-ends spot.picture next spot (result (said sizes k.texts x.0) (said sizes k.texts y.0)) s on_error else' refl
@@ -194,20 +194,20 @@ module _ (deck : DeckModel) (program : Program) (sizes message : List ℕ) (repl
       → ((n : ℕ) (records : List (List ℕ)) (own : List ℕ) → answer_of n records op (call_by_key alone_setting op file own) ≡ read_answer missing (look n records own))
       → ((n : ℕ) (records : List (List ℕ)) (own : List ℕ) → records_behind n records (call_by_key alone_setting op file own) ≡ records)
       → (next : KnownMoment → Type 0) (k : KnownMoment)
-      → WithKnown program k.registers key (λ found. WithKnown program k.registers into (λ item.
+      → WithKnown program sizes k key (λ found. WithKnown program sizes k into (λ item.
       FindMeets deck program sizes message replies missing (look (key_length deck (file_number deck file)) (k.files (file_number deck file)) (as_it_stands (said sizes k.texts found))) (spot_in item) next k))
       → (s : ProgramState) → IsKnownAt sizes k s → EndsWell replies (Follows next) (read_by alone_setting op file key into s)
   reads-end op missing look file key into answers stay next k now s known =
-      let x = known-taken program k.registers key _ now in
-      let z = known-taken program k.registers into _ x.2 in
+      let x = known-taken program sizes k key _ now in
+      let z = known-taken program sizes k into _ x.2 in
       let f : ℕ = file_number deck file in
       let n : ℕ = key_length deck f in
       let spot : Spot = spot_in z.0 in
       let call : FileCall = call_by_key alone_setting op file (chars_in x.0 s.store) in
       let End : FileResult → List (List ℕ) → Type 0 =
       λ found records. EndsWell replies (Follows next) (file_done (Some spot) found.status found.content (record s { files = upd s.files f records })) in
-      taken-well replies (Follows next) (operand_taken program s key) x.0 s _ (x.1 s known.registers)
-      (taken-well replies (Follows next) (operand_taken program s into) z.0 s _ (z.1 s known.registers)
+      taken-well replies (Follows next) (operand_taken program s key) x.0 s _ (x.1 s known)
+      (taken-well replies (Follows next) (operand_taken program s into) z.0 s _ (z.1 s known)
       (subst (λ found. End found (records_behind n (s.files f) call)) (sym (answers n (s.files f) (chars_in x.0 s.store)))
       (subst (λ records. End (read_answer missing (look n (s.files f) (chars_in x.0 s.store))) records) (sym (stay n (s.files f) (chars_in x.0 s.store)))
       (finds-ends missing (look n (s.files f) (chars_in x.0 s.store)) _ spot f next k s known (at-known (look n) f x.0 k s known) z.2))))
@@ -264,13 +264,13 @@ module _ (deck : DeckModel) (program : Program) (sizes message : List ℕ) (repl
     here-well next k now s known = (k, known, now)
 
     move-well : (from : Operand) (to : List Operand) (next : KnownMoment → Type 0) (k : KnownMoment)
-        → WithKnown program k.registers from (λ source. WithAllKnown program k.registers to (λ targets. next (record k { texts = with_moves source (map spot_in targets) sizes k.texts })))
+        → WithKnown program sizes k from (λ source. WithAllKnown program sizes k to (λ targets. next (record k { texts = with_moves source (map spot_in targets) sizes k.texts })))
         → Well (move_all alone_setting from to) next k
     move-well from to next k now s known =
-        let x = known-taken program k.registers from _ now in
-        let xs = all-taken program k.registers to _ x.2 in
-        taken-well replies (Follows next) (operand_taken program s from) x.0 s _ (x.1 s known.registers)
-        (taken-well replies (Follows next) (taken_all program s to) xs.0 s (λ targets. Goes (record s { store = moves x.0 (map spot_in targets) s.store })) (xs.1 s known.registers)
+        let x = known-taken program sizes k from _ now in
+        let xs = all-taken program sizes k to _ x.2 in
+        taken-well replies (Follows next) (operand_taken program s from) x.0 s _ (x.1 s known)
+        (taken-well replies (Follows next) (taken_all program s to) xs.0 s (λ targets. Goes (record s { store = moves x.0 (map spot_in targets) s.store })) (xs.1 s known)
         (record k { texts = with_moves x.0 (map spot_in xs.0) sizes k.texts }, known-moves sizes k s known x.0 (map spot_in xs.0), xs.2))
 
     mutual
@@ -301,14 +301,14 @@ module _ (deck : DeckModel) (program : Program) (sizes message : List ℕ) (repl
       statement-well (form.StopRun line) next k now = counted (stop alone_setting) next k (λ s known. tt)
       statement-well (form.Receive line into) next k now =
           counted (receive alone_setting into) next k (λ s known.
-          let z = known-taken program k.registers into _ now in
+          let z = known-taken program sizes k into _ now in
           let spot : Spot = spot_in z.0 in
-          taken-well replies (Follows next) (operand_taken program s into) z.0 s (λ item. Goes (move_text message (spot_in item) s)) (z.1 s known.registers)
+          taken-well replies (Follows next) (operand_taken program s into) z.0 s (λ item. Goes (move_text message (spot_in item) s)) (z.1 s known)
           (moved_text deck program sizes message replies message spot k, known-put sizes k s known spot (moved_chars spot.picture spot.size (Text' message)), z.2))
       statement-well (form.Reply line from) next k now =
           counted (reply alone_setting from) next k (λ s known.
-          let x = known-taken program k.registers from _ now in
-          taken-well replies (Follows next) (operand_taken program s from) x.0 s (λ found. Asks (verb.Reply (chars_in found s.store)) s) (x.1 s known.registers)
+          let x = known-taken program sizes k from _ now in
+          taken-well replies (Follows next) (operand_taken program s from) x.0 s (λ found. Asks (verb.Reply (chars_in found s.store)) s) (x.1 s known)
           (subst (λ chars. replies chars s.files) (sym (chars-known x.0 k s known))
           (subst (λ files. replies (as_it_stands (said sizes k.texts x.0)) files) (sym known.files) x.2)))
       statement-well (form.Read line file true key into) next k now =
@@ -321,28 +321,28 @@ module _ (deck : DeckModel) (program : Program) (sizes message : List ℕ) (repl
           counted (read_next alone_setting file false after into) next k (reads-end Next 1 record_after file after into (λ n records own. refl) (λ n records own. refl) next k now)
       statement-well (form.Write line file from) next k now =
           counted (write_by alone_setting Write file from) next k (λ s known.
-          let x = known-taken program k.registers from _ now in
+          let x = known-taken program sizes k from _ now in
           let f : ℕ = file_number deck file in
           let n : ℕ = key_length deck f in
           let may : List (List ℕ) → List ℕ → Bool = λ records content. if has_key n records (take n content) then false else true in
-          taken-well replies (Follows next) (operand_taken program s from) x.0 s _ (x.1 s known.registers)
+          taken-well replies (Follows next) (operand_taken program s from) x.0 s _ (x.1 s known)
           (changes-ends 10 (may (s.files f) (chars_in x.0 s.store)) _ f (with_record n (s.files f) (chars_in x.0 s.store)) _ next k s refl known
           (at-known may f x.0 k s known) (at-known (with_record n) f x.0 k s known) x.2))
       statement-well (form.Rewrite line file from) next k now =
           counted (write_by alone_setting Rewrite file from) next k (λ s known.
-          let x = known-taken program k.registers from _ now in
+          let x = known-taken program sizes k from _ now in
           let f : ℕ = file_number deck file in
           let n : ℕ = key_length deck f in
           let may : List (List ℕ) → List ℕ → Bool = λ records content. has_key n records (take n content) in
-          taken-well replies (Follows next) (operand_taken program s from) x.0 s _ (x.1 s known.registers)
+          taken-well replies (Follows next) (operand_taken program s from) x.0 s _ (x.1 s known)
           (changes-ends 11 (may (s.files f) (chars_in x.0 s.store)) _ f (with_record n (s.files f) (chars_in x.0 s.store)) _ next k s refl known
           (at-known may f x.0 k s known) (at-known (with_record n) f x.0 k s known) x.2))
       statement-well (form.Delete line file key) next k now =
           counted (delete alone_setting file key) next k (λ s known.
-          let x = known-taken program k.registers key _ now in
+          let x = known-taken program sizes k key _ now in
           let f : ℕ = file_number deck file in
           let n : ℕ = key_length deck f in
-          taken-well replies (Follows next) (operand_taken program s key) x.0 s _ (x.1 s known.registers)
+          taken-well replies (Follows next) (operand_taken program s key) x.0 s _ (x.1 s known)
           (changes-ends 11 (has_key n (s.files f) (chars_in x.0 s.store)) _ f (without_key n (s.files f) (chars_in x.0 s.store)) _ next k s refl known
           (at-known (has_key n) f x.0 k s known) (at-known (without_key n) f x.0 k s known) x.2))
       statement-well _ next k now = absurd now

@@ -101,3 +101,22 @@ moves-texts source (spot ∷ spots) sizes store texts is sized =
     (put_at-texts spot _ sizes store texts is sized
     ∙ ap (λ value. with_moved value spot sizes texts) (value_in-texts source sizes store texts is sized))
     (dealt-sized spot _ 0 sizes texts sized)
+
+-- ---- given sizes
+
+-- the first of some texts
+abbrev pub first_of : List (List ℕ) → List ℕ
+first_of [] = []
+first_of (text ∷ texts) = text
+
+-- as many texts as sizes, each by its place
+abbrev pub parted : List ℕ → List (List ℕ) → List (List ℕ)
+parted [] texts = []
+parted (size ∷ sizes) texts = first_of texts ∷ parted sizes (drop 1 texts)
+
+-- texts of given sizes, one by one
+pub texts-parted : (sizes : List ℕ) (texts : List (List ℕ)) → HaveSizes sizes texts → texts ≡ parted sizes texts
+texts-parted [] [] sized = refl
+texts-parted [] (text ∷ texts) sized = absurd sized
+texts-parted (size ∷ sizes) [] sized = absurd sized
+texts-parted (size ∷ sizes) (text ∷ texts) sized = ap (λ rest. text ∷ rest) (texts-parted sizes texts sized.1)

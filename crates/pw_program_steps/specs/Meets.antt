@@ -7,6 +7,8 @@ use Rattle.pw_forms.specs.declared.cond.ComparisonForm.TheVariants as comparison
 use Rattle.pw_forms.specs.declared.cond.ConditionForm.{ConditionForm}
 use Rattle.pw_forms.specs.declared.operand.Operand.{Operand}
 use Rattle.pw_forms.specs.declared.operand.Operand.TheVariants as operands
+use Rattle.pw_forms.specs.declared.operand.Subscript.{Subscript}
+use Rattle.pw_forms.specs.declared.operand.Subscript.TheVariants as subscripts
 use Rattle.pw_forms.specs.declared.statement.ArithmeticForm as arithmetic
 use Rattle.pw_forms.specs.declared.statement.Paragraph.{Paragraph}
 use Rattle.pw_forms.specs.declared.statement.Statement.{Statement}
@@ -21,21 +23,33 @@ use Rattle.pw_program_steps.specs.Known.{KnownMoment, RecordsByFile, known_start
 use Rattle.pw_program_steps.specs.Texts.{HaveSizes, said, with_moved, with_moves, with_text}
 use Rattle.pw_tree_meaning.specs.Arithmetic.{operated, receiver_decimals, receiver_of}
 use Rattle.pw_tree_meaning.specs.Conditions.{compared, condition_turned, holds_by, is_numeric}
-use Rattle.pw_tree_meaning.specs.Operands.{ResolvedOperand, Fixed, plain, spot_in}
+use Rattle.pw_tree_meaning.specs.Operands.{ResolvedOperand, Fixed, plain, spot_in, taken_item}
 use Rattle.pw_tree_meaning.specs.Program.{DeckModel, Program, body_named, file_number, item_named, key_length}
 use Rattle.pw_tree_meaning.specs.Runs.{most_performs}
 use Rattle.pw_tree_meaning.specs.State.{Registers}
 use Rattle.pw_tree_meaning.specs.Store.{Spot}
-use Rattle.pw_tree_meaning.specs.Values.{Value, Number', Spaces', Text', Zeros', as_it_stands, number_of}
+use Rattle.pw_tree_meaning.specs.Values.{Value, Number', Spaces', Text', Zeros', as_it_stands, number_in, number_of, whole_part}
 use Rattle.pw_words.specs.Words.{Word}
 
 -- ---- operands
 
-module _ (program : Program) (registers : Registers) where
-  -- an operand without a subscript; of others nothing is known
+module _ (program : Program) (sizes : List ℕ) (k : KnownMoment) where
+  -- the value of a subscript
+  abbrev pub known_subscript : Subscript → ℕ
+  known_subscript (subscripts.Number spelling) = whole_part (number_in spelling)
+  known_subscript (subscripts.Item name) =
+      whole_part (number_of (said sizes k.texts (plain (item_named program name) k.registers name)))
+
+  -- the occurrence of a subscript; where it is outside, nothing can be shown
+  abbrev pub WithTaken : Option ResolvedOperand → (ResolvedOperand → Type 0) → Type 0
+  WithTaken None next = ⊥
+  WithTaken (Some found) next = next found
+
+  -- an operand
   abbrev pub WithKnown : Operand → (ResolvedOperand → Type 0) → Type 0
-  WithKnown (operands.Item name None) next = next (plain (item_named program name) registers name)
-  WithKnown (operands.Item name (Some subscript)) next = ⊥
+  WithKnown (operands.Item name None) next = next (plain (item_named program name) k.registers name)
+  WithKnown (operands.Item name (Some subscript)) next =
+      WithTaken (taken_item (item_named program name) k.registers name (Some (known_subscript subscript))) next
   WithKnown (operands.Number spelling) next = next (Fixed (Number' spelling))
   WithKnown (operands.Text chars) next = next (Fixed (Text' chars))
   WithKnown operands.Spaces next = next (Fixed Spaces')
@@ -55,10 +69,10 @@ BranchesOn b first second = (b ≡ true → first) × (b ≡ false → second)
 module _ (program : Program) (sizes : List ℕ) (k : KnownMoment) where
   abbrev pub ComparisonMeets : ComparisonForm → (Bool → Type 0) → Type 0
   ComparisonMeets (comparison.Compare left negated op right) next =
-      WithKnown program k.registers left (λ a. WithKnown program k.registers right (λ b.
+      WithKnown program sizes k left (λ a. WithKnown program sizes k right (λ b.
       next (condition_turned negated (holds_by op (compared (said sizes k.texts a) (said sizes k.texts b))))))
   ComparisonMeets (comparison.Numeric operand negated) next =
-      WithKnown program k.registers operand (λ a. next (condition_turned negated (is_numeric (said sizes k.texts a))))
+      WithKnown program sizes k operand (λ a. next (condition_turned negated (is_numeric (said sizes k.texts a))))
 
   abbrev pub AllMeet : List ComparisonForm → (Bool → Type 0) → Type 0
   AllMeet [] next = next true
@@ -104,8 +118,8 @@ module _ (deck : DeckModel) (program : Program) (sizes message : List ℕ) (repl
   abbrev pub ArithmeticMeets : arithmetic.ArithmeticForm → (KnownMoment → Type 0) → (KnownMoment → Type 0)
       → KnownMoment → Type 0
   ArithmeticMeets a on_error next k =
-      WithKnown program k.registers a.first (λ x. WithKnown program k.registers a.second (λ y.
-      WithKnown program k.registers (receiver_of a) (λ z.
+      WithKnown program sizes k a.first (λ x. WithKnown program sizes k a.second (λ y.
+      WithKnown program sizes k (receiver_of a) (λ z.
       let spot = spot_in z in
       let result =
       received spot.picture
@@ -126,7 +140,7 @@ module _ (deck : DeckModel) (program : Program) (sizes message : List ℕ) (repl
       -- what follows has to be met behind the statement; of statements that are not spoken of nothing can be shown
       pub StatementMeets : Statement → (KnownMoment → Type 0) → KnownMoment → Type 0
       StatementMeets (form.Move line from to) next k =
-          WithKnown program k.registers from (λ source. WithAllKnown program k.registers to (λ targets.
+          WithKnown program sizes k from (λ source. WithAllKnown program sizes k to (λ targets.
           next (record k { texts = with_moves source (map spot_in targets) sizes k.texts })))
       StatementMeets (form.Arithmetic line a) next k = ArithmeticMeets a next next k
       StatementMeets (form.OnSizeError' line a n first m second) next k =
@@ -139,31 +153,31 @@ module _ (deck : DeckModel) (program : Program) (sizes message : List ℕ) (repl
       StatementMeets (form.ExitProgram line) next k = Unit {0}
       StatementMeets (form.StopRun line) next k = Unit {0}
       StatementMeets (form.Receive line into) next k =
-          WithKnown program k.registers into (λ item. next (moved_text message (spot_in item) k))
+          WithKnown program sizes k into (λ item. next (moved_text message (spot_in item) k))
       StatementMeets (form.Reply line from) next k =
-          WithKnown program k.registers from (λ found. replies (as_it_stands (said sizes k.texts found)) k.files)
+          WithKnown program sizes k from (λ found. replies (as_it_stands (said sizes k.texts found)) k.files)
       StatementMeets (form.Read line file locking key into) next k =
-          WithKnown program k.registers key (λ found. WithKnown program k.registers into (λ item.
+          WithKnown program sizes k key (λ found. WithKnown program sizes k into (λ item.
           let f = file_number deck file in
           FindMeets 11 (record_at (key_length deck f) (k.files f) (as_it_stands (said sizes k.texts found))) (spot_in item) next k))
       StatementMeets (form.ReadNext line file locking after into) next k =
-          WithKnown program k.registers after (λ found. WithKnown program k.registers into (λ item.
+          WithKnown program sizes k after (λ found. WithKnown program sizes k into (λ item.
           let f = file_number deck file in
           FindMeets 1 (record_after (key_length deck f) (k.files f) (as_it_stands (said sizes k.texts found))) (spot_in item) next k))
       StatementMeets (form.Write line file from) next k =
-          WithKnown program k.registers from (λ found.
+          WithKnown program sizes k from (λ found.
           let f = file_number deck file in
           let n = key_length deck f in
           let content = as_it_stands (said sizes k.texts found) in
           ChangeMeets 10 (if has_key n (k.files f) (take n content) then false else true) f (with_record n (k.files f) content) next k)
       StatementMeets (form.Rewrite line file from) next k =
-          WithKnown program k.registers from (λ found.
+          WithKnown program sizes k from (λ found.
           let f = file_number deck file in
           let n = key_length deck f in
           let content = as_it_stands (said sizes k.texts found) in
           ChangeMeets 11 (has_key n (k.files f) (take n content)) f (with_record n (k.files f) content) next k)
       StatementMeets (form.Delete line file key) next k =
-          WithKnown program k.registers key (λ found.
+          WithKnown program sizes k key (λ found.
           let f = file_number deck file in
           let n = key_length deck f in
           let own = as_it_stands (said sizes k.texts found) in

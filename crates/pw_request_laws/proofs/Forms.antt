@@ -14,10 +14,11 @@ use Rattle.pw_picture.specs.declared.picture.Picture.{Picture}
 use Rattle.pw_picture.specs.Stored.{is_kept, moved}
 use Rattle.pw_program_steps.proofs.Operands.{all-taken, known-taken}
 use Rattle.pw_program_steps.proofs.Texts.{value_in-texts}
+use Rattle.pw_program_steps.specs.Known.{IsKnownAt}
 use Rattle.pw_program_steps.specs.Meets.{ArithmeticMeets, WithAllKnown, WithKnown, received}
 use Rattle.pw_program_steps.specs.Texts.{said, with_moved, with_moves, with_text}
 use Rattle.pw_request_laws.proofs.Follows.{Answers, Commits, Safe, answered, open_after, sent_after}
-use Rattle.pw_request_laws.proofs.Runs.{Runs, Stands, asks-safe, goes-on, safe-same, stands-counted, stands-moves, stands-put, stuck, taken-is}
+use Rattle.pw_request_laws.proofs.Runs.{Runs, Stands, asks-safe, goes-on, safe-moved, safe-same, stands-answered, stands-counted, stands-moves, stands-put, stuck, taken-is}
 use Rattle.pw_request_laws.specs.Requests.{AbortMeets, BeginMeets, EndMeets, RequesterMoment, SendMeets, as_known, sent_behind, with_known}
 use Rattle.pw_tree_meaning.specs.Arithmetic.{arithmetic_on, computed, operated, or_else, receiver_decimals, receiver_of, stored_by, stored_in}
 use Rattle.pw_tree_meaning.specs.Moves.{moved_chars, moves}
@@ -34,23 +35,24 @@ use Rattle.pw_words.specs.Words.{Word}
 
 -- ---- results
 
--- the state with the characters that a receiver gets, if any
-abbrev pub with_result : Option (List ℕ) → Spot → ProgramState → ProgramState
-with_result None spot t = t
-with_result (Some chars) spot t = record t { store = put_at spot chars t.store }
+-- what follows a result: the characters that a receiver gets are stored, if there are any
+abbrev settled : Option (List ℕ) → Spot → (ProgramState → Out) → (ProgramState → Out) → ProgramState → Out
+settled None spot on_error else' t = on_error t
+settled (Some chars) spot on_error else' t = else' (record t { store = put_at spot chars t.store })
 
-kept-result : (b : Bool) (p : Picture) (n : Number) (spot : Spot) (t : ProgramState)
-    → or_else (if b then Some (record t { store = put_at spot (moved p n) t.store }) else None) t Goes Goes ≡ Goes (with_result (if b then Some (moved p n) else None) spot t)
-kept-result true p n spot t = refl
-kept-result false p n spot t = refl
+module _ (on_error else' : ProgramState → Out) (spot : Spot) (t : ProgramState) where
+  kept-result : (b : Bool) (p : Picture) (n : Number)
+      → or_else (if b then Some (record t { store = put_at spot (moved p n) t.store }) else None) t on_error else' ≡ settled (if b then Some (moved p n) else None) spot on_error else' t
+  kept-result true p n = refl
+  kept-result false p n = refl
 
-picture-result : (o : Option Picture) (n : Number) (spot : Spot) (t : ProgramState) → or_else (stored_by o spot n t) t Goes Goes ≡ Goes (with_result (received o (Ok n)) spot t)
-picture-result None n spot t = refl
-picture-result (Some p) n spot t = kept-result (is_kept p n) p n spot t
+  picture-result : (o : Option Picture) (n : Number) → or_else (stored_by o spot n t) t on_error else' ≡ settled (received o (Ok n)) spot on_error else' t
+  picture-result None n = refl
+  picture-result (Some p) n = kept-result (is_kept p n) p n
 
-result-is : (r : Result Number SizeError) (spot : Spot) (t : ProgramState) → or_else (stored_in spot r t) t Goes Goes ≡ Goes (with_result (received spot.picture r) spot t)
-result-is (Ok n) spot t = picture-result spot.picture n spot t
-result-is (Err error) spot t = refl
+  result-is : (r : Result Number SizeError) → or_else (stored_in spot r t) t on_error else' ≡ settled (received spot.picture r) spot on_error else' t
+  result-is (Ok n) = picture-result spot.picture n
+  result-is (Err error) = refl
 
 module _ (deck : DeckModel) (program : Program) (first : ℕ) (sizes : List ℕ) (holds : List RepliedRequest → Type 0) (lines : List EntryLineModel) (most : ℕ) where
   -- a program of a terminal
@@ -60,56 +62,63 @@ module _ (deck : DeckModel) (program : Program) (first : ℕ) (sizes : List ℕ)
   -- ---- MOVE and arithmetic
 
   pub move-runs : (from : Operand) (to : List Operand) (next : RequesterMoment → Type 0) (k : RequesterMoment)
-      → WithKnown program k.registers from (λ source. WithAllKnown program k.registers to (λ targets. next (record k { texts = with_moves source (map spot_in targets) sizes k.texts })))
+      → WithKnown program sizes (as_known k) from (λ source. WithAllKnown program sizes (as_known k) to (λ targets. next (record k { texts = with_moves source (map spot_in targets) sizes k.texts })))
       → Runs sizes holds lines most (move_all requester from to) next k
   move-runs from to next k now s stands cont safe =
-      let x = known-taken program k.registers from _ now in
-      let xs = all-taken program k.registers to _ x.2 in
+      let x = known-taken program sizes (as_known k) from _ now in
+      let xs = all-taken program sizes (as_known k) to _ x.2 in
       let spots : List Spot = map spot_in xs.0 in
       goes-on sizes holds lines most k.inside k.sent (move_all requester from to) s (record s { store = moves x.0 spots s.store }) cont
       (λ rest.
       let t : ProgramState = answered lines rest s in
-      taken-is (operand_taken program t from) x.0 t (λ source. with_taken (taken_all program t to) t (λ targets. Goes (record t { store = moves source (map spot_in targets) t.store }))) (x.1 t stands.known.registers)
-      ∙ taken-is (taken_all program t to) xs.0 t (λ targets. Goes (record t { store = moves x.0 (map spot_in targets) t.store })) (xs.1 t stands.known.registers))
+      taken-is (operand_taken program t from) x.0 t (λ source. with_taken (taken_all program t to) t (λ targets. Goes (record t { store = moves source (map spot_in targets) t.store }))) (x.1 t (stands-answered sizes k s stands lines rest))
+      ∙ taken-is (taken_all program t to) xs.0 t (λ targets. Goes (record t { store = moves x.0 (map spot_in targets) t.store })) (xs.1 t (stands-answered sizes k s stands lines rest)))
       (safe (record k { texts = with_moves x.0 spots sizes k.texts }) xs.2 (record s { store = moves x.0 spots s.store }) (stands-moves sizes k s stands x.0 spots))
 
-  pub arithmetic-runs : (a : arithmetic.ArithmeticForm) (next : RequesterMoment → Type 0) (k : RequesterMoment)
-      → ArithmeticMeets deck program sizes [] (λ reply files. Unit {0}) a (λ known. next (with_known k known)) (λ known. next (with_known k known)) (as_known k)
-      → Runs sizes holds lines most (arithmetic_on program a Goes Goes) next k
-  arithmetic-runs a next k now s stands cont safe =
-      let x = known-taken program k.registers a.first _ now in
-      let y = known-taken program k.registers a.second _ x.2 in
-      let z = known-taken program k.registers (receiver_of a) _ y.2 in
+  pub arithmetic-runs : (a : arithmetic.ArithmeticForm) (fails goes next : RequesterMoment → Type 0) (on_error else' : ProgramState → Out)
+      → ((k : RequesterMoment) → fails k → Runs sizes holds lines most on_error next k)
+      → ((k : RequesterMoment) → goes k → Runs sizes holds lines most else' next k)
+      → (k : RequesterMoment)
+      → ArithmeticMeets deck program sizes [] (λ reply files. Unit {0}) a (λ known. fails (with_known k known)) (λ known. goes (with_known k known)) (as_known k)
+      → Runs sizes holds lines most (arithmetic_on program a on_error else') next k
+  arithmetic-runs a fails goes next on_error else' failing going k now s stands cont safe =
+      let x = known-taken program sizes (as_known k) a.first _ now in
+      let y = known-taken program sizes (as_known k) a.second _ x.2 in
+      let z = known-taken program sizes (as_known k) (receiver_of a) _ y.2 in
       let spot : Spot = spot_in z.0 in
       let result : Value → Value → Result Number SizeError = λ u v. operated a.operation (receiver_decimals spot.picture) (number_of u) (number_of v) in
       let u : Value = said sizes k.texts x.0 in
       let v : Value = said sizes k.texts y.0 in
       let one : value_in x.0 s.store ≡ u = value_in-texts x.0 sizes s.store k.texts stands.known.texts stands.known.sized in
       let other : value_in y.0 s.store ≡ v = value_in-texts y.0 sizes s.store k.texts stands.known.texts stands.known.sized in
-      let is : (rest : List PathAnswer) → arithmetic_on program a Goes Goes (answered lines rest s) ≡ Goes (with_result (received spot.picture (result u v)) spot (answered lines rest s)) =
+      let is : (rest : List PathAnswer) → arithmetic_on program a on_error else' (answered lines rest s) ≡ settled (received spot.picture (result u v)) spot on_error else' (answered lines rest s) =
       λ rest.
       let t : ProgramState = answered lines rest s in
+      let at : IsKnownAt sizes (as_known k) t = stands-answered sizes k s stands lines rest in
       taken-is (operand_taken program t a.first) x.0 t
-      (λ p. with_taken (operand_taken program t a.second) t (λ q. with_taken (operand_taken program t (receiver_of a)) t (λ r. or_else (computed a.operation (value_in p t.store) (value_in q t.store) (spot_in r) t) t Goes Goes)))
-      (x.1 t stands.known.registers)
+      (λ p. with_taken (operand_taken program t a.second) t (λ q. with_taken (operand_taken program t (receiver_of a)) t (λ r. or_else (computed a.operation (value_in p t.store) (value_in q t.store) (spot_in r) t) t on_error else')))
+      (x.1 t at)
       ∙ taken-is (operand_taken program t a.second) y.0 t
-      (λ q. with_taken (operand_taken program t (receiver_of a)) t (λ r. or_else (computed a.operation (value_in x.0 t.store) (value_in q t.store) (spot_in r) t) t Goes Goes))
-      (y.1 t stands.known.registers)
-      ∙ taken-is (operand_taken program t (receiver_of a)) z.0 t (λ r. or_else (computed a.operation (value_in x.0 t.store) (value_in y.0 t.store) (spot_in r) t) t Goes Goes) (z.1 t stands.known.registers)
-      ∙ ap (λ p. or_else (stored_in spot (result p (value_in y.0 t.store)) t) t Goes Goes) one
-      ∙ ap (λ q. or_else (stored_in spot (result u q) t) t Goes Goes) other
-      ∙ result-is (result u v) spot t in
+      (λ q. with_taken (operand_taken program t (receiver_of a)) t (λ r. or_else (computed a.operation (value_in x.0 t.store) (value_in q t.store) (spot_in r) t) t on_error else'))
+      (y.1 t at)
+      ∙ taken-is (operand_taken program t (receiver_of a)) z.0 t (λ r. or_else (computed a.operation (value_in x.0 t.store) (value_in y.0 t.store) (spot_in r) t) t on_error else') (z.1 t at)
+      ∙ ap (λ p. or_else (stored_in spot (result p (value_in y.0 t.store)) t) t on_error else') one
+      ∙ ap (λ q. or_else (stored_in spot (result u q) t) t on_error else') other
+      ∙ result-is on_error else' spot t (result u v) in
       by spot (received spot.picture (result u v)) is z.2.0 z.2.1
     where
       by : (spot : Spot) (o : Option (List ℕ))
-          → ((rest : List PathAnswer) → arithmetic_on program a Goes Goes (answered lines rest s) ≡ Goes (with_result o spot (answered lines rest s)))
-          → (o ≡ None → next (with_known k (as_known k)))
-          → ((chars : List ℕ) → o ≡ Some chars → next (with_known k (record (as_known k) { texts = with_text spot chars sizes k.texts })))
-          → Safe holds lines most k.inside k.sent s (λ t. then_do (arithmetic_on program a Goes Goes t) cont)
-      by spot None is none some = goes-on sizes holds lines most k.inside k.sent (arithmetic_on program a Goes Goes) s s cont is (safe k (none refl) s stands)
+          → ((rest : List PathAnswer) → arithmetic_on program a on_error else' (answered lines rest s) ≡ settled o spot on_error else' (answered lines rest s))
+          → (o ≡ None → fails (with_known k (as_known k)))
+          → ((chars : List ℕ) → o ≡ Some chars → goes (with_known k (record (as_known k) { texts = with_text spot chars sizes k.texts })))
+          → Safe holds lines most k.inside k.sent s (λ t. then_do (arithmetic_on program a on_error else' t) cont)
+      by spot None is none some =
+          safe-moved sizes holds lines most k.inside k.sent s s (λ t. then_do (arithmetic_on program a on_error else' t) cont) (λ t. then_do (on_error t) cont)
+          (λ rest. ap (λ out. then_do out cont) (is rest)) (failing k (none refl) s stands cont safe)
       by spot (Some chars) is none some =
-          goes-on sizes holds lines most k.inside k.sent (arithmetic_on program a Goes Goes) s (record s { store = put_at spot chars s.store }) cont is
-          (safe (record k { texts = with_text spot chars sizes k.texts }) (some chars refl) (record s { store = put_at spot chars s.store }) (stands-put sizes k s stands spot chars))
+          safe-moved sizes holds lines most k.inside k.sent s (record s { store = put_at spot chars s.store }) (λ t. then_do (arithmetic_on program a on_error else' t) cont) (λ t. then_do (else' t) cont)
+          (λ rest. ap (λ out. then_do out cont) (is rest))
+          (going (record k { texts = with_text spot chars sizes k.texts }) (some chars refl) (record s { store = put_at spot chars s.store }) (stands-put sizes k s stands spot chars) cont safe)
 
   -- ---- SEND
 
@@ -148,12 +157,12 @@ module _ (deck : DeckModel) (program : Program) (first : ℕ) (sizes : List ℕ)
       }))
 
   pub send-runs : (message : Operand) (class : Word) (codes : List SendCode) (next : RequesterMoment → Type 0) (k : RequesterMoment)
-      → WithKnown program k.registers message (λ found. WithAllKnown program k.registers (yields_of codes) (λ items.
+      → WithKnown program sizes (as_known k) message (λ found. WithAllKnown program sizes (as_known k) (yields_of codes) (λ items.
       SendMeets deck program sizes holds (as_it_stands (said sizes k.texts found)) (class_number deck class) codes (map spot_in items) next k))
       → Runs sizes holds lines most (send requester message class codes) next k
   send-runs message class codes next k now s stands cont safe =
-      let x = known-taken program k.registers message _ now in
-      let xs = all-taken program k.registers (yields_of codes) _ x.2 in
+      let x = known-taken program sizes (as_known k) message _ now in
+      let xs = all-taken program sizes (as_known k) (yields_of codes) _ x.2 in
       let spots : List Spot = map spot_in xs.0 in
       let c : ℕ = class_number deck class in
       let chars : List ℕ = as_it_stands (said sizes k.texts x.0) in
@@ -164,8 +173,8 @@ module _ (deck : DeckModel) (program : Program) (first : ℕ) (sizes : List ℕ)
       let t : ProgramState = answered lines rest s in
       sym (ap (λ out. then_do out cont)
       (taken-is (operand_taken program t message) x.0 t
-      (λ found. with_taken (taken_all program t (yields_of codes)) t (λ items. asks (verb.Send c (chars_in found t.store)) (after_send_answer codes (map spot_in items)) t)) (x.1 t stands.known.registers)
-      ∙ taken-is (taken_all program t (yields_of codes)) xs.0 t (λ items. asks (verb.Send c (chars_in x.0 t.store)) (after_send_answer codes (map spot_in items)) t) (xs.1 t stands.known.registers)
+      (λ found. with_taken (taken_all program t (yields_of codes)) t (λ items. asks (verb.Send c (chars_in found t.store)) (after_send_answer codes (map spot_in items)) t)) (x.1 t (stands-answered sizes k s stands lines rest))
+      ∙ taken-is (taken_all program t (yields_of codes)) xs.0 t (λ items. asks (verb.Send c (chars_in x.0 t.store)) (after_send_answer codes (map spot_in items)) t) (xs.1 t (stands-answered sizes k s stands lines rest))
       ∙ ap (λ m. asks (verb.Send c m) (after_send_answer codes spots) t) same)))
       (asks-safe sizes holds lines most k.inside k.sent (verb.Send c chars) (after_send_answer codes spots) s cont
       (each c chars spots xs.2 (record s { count = 0 }) after))

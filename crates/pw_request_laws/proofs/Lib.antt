@@ -5,3 +5,4 @@ pub mod Screens
 pub mod Statements
 pub mod Programs
 pub mod Units
+pub mod Codes

@@ -37,6 +37,11 @@ module _ (sizes : List ℕ) (k : RequesterMoment) (s : ProgramState) (stands : S
     in_unit = stands.in_unit;
   }
 
+  -- whatever the answers to come
+  pub stands-answered : (lines : List EntryLineModel) (rest : List PathAnswer) → IsKnownAt sizes (as_known k) (answered lines rest s)
+  stands-answered lines rest =
+      record { texts = stands.known.texts; sized = stands.known.sized; registers = stands.known.registers; files = stands.known.files }
+
   pub stands-shown : (count : ℕ) (screen : List ℕ) → Stands sizes k (record s { count = count; screen = screen })
   stands-shown count screen = record {
     known = record { texts = stands.known.texts; sized = stands.known.sized; registers = stands.known.registers; files = stands.known.files };
@@ -80,6 +85,13 @@ module _ (sizes : List ℕ) (holds : List RepliedRequest → Type 0) (lines : Li
       → Safe holds lines most inside sent s f → Safe holds lines most inside sent s g
   safe-same inside sent s f g same safe path le =
       follows-same holds inside sent (λ rest. f (answered lines rest s)) (λ rest. g (answered lines rest s)) path (λ rest short. same rest) (safe path le)
+
+  -- the run of another state that comes to the same
+  pub safe-moved : (inside : Bool) (sent : List RepliedRequest) (s t : ProgramState) (f g : ProgramState → Out)
+      → ((rest : List PathAnswer) → f (answered lines rest s) ≡ g (answered lines rest t))
+      → Safe holds lines most inside sent t g → Safe holds lines most inside sent s f
+  safe-moved inside sent s t f g same safe path le =
+      follows-same holds inside sent (λ rest. g (answered lines rest t)) (λ rest. f (answered lines rest s)) path (λ rest short. sym (same rest)) (safe path le)
 
   -- a step that asks nothing
   pub goes-on : (inside : Bool) (sent : List RepliedRequest) (f : ProgramState → Out) (s t : ProgramState) (cont : ProgramState → Out)

@@ -18,8 +18,8 @@ use Rattle.pw_program_steps.specs.Meets.{WithKnown}
 use Rattle.pw_program_steps.specs.Texts.{HaveSizes, texts_in}
 use Rattle.pw_request_laws.proofs.Follows.{Answers, Commits, Follows, Safe, answered, open_after, sent_after}
 use Rattle.pw_request_laws.proofs.Forms.{requester}
-use Rattle.pw_request_laws.proofs.Runs.{Runs, Stands, asks-safe, safe-same, stands-shown, taken-is}
-use Rattle.pw_request_laws.specs.Requests.{RequesterMoment}
+use Rattle.pw_request_laws.proofs.Runs.{Runs, Stands, asks-safe, safe-same, stands-answered, stands-shown, taken-is}
+use Rattle.pw_request_laws.specs.Requests.{RequesterMoment, as_known}
 use Rattle.pw_terminal.specs.Entries.{check, with_advice}
 use Rattle.pw_terminal.specs.Screen.{with_message}
 use Rattle.pw_terminal.specs.Shown.{with_screen}
@@ -57,21 +57,21 @@ module _ (deck : DeckModel) (program : Program) (first : ℕ) (sizes : List ℕ)
   table-runs base None next k now s stands cont safe = shown-safe s.screen next k now s stands cont safe
   table-runs base (Some table) next k now s stands cont safe = shown-safe (with_screen base (joined s.store) table s.screen) next k now s stands cont safe
 
-  display-by : (o : Option ScreenTable) (shown : Operand) (next : RequesterMoment → Type 0) (k : RequesterMoment) → WithKnown program k.registers shown (λ found. next k)
+  display-by : (o : Option ScreenTable) (shown : Operand) (next : RequesterMoment → Type 0) (k : RequesterMoment) → WithKnown program sizes (as_known k) shown (λ found. next k)
       → Runs sizes holds lines most (display_by o (requester deck program first sizes holds lines most) shown) next k
   display-by (Some table) shown next k now =
-      let x = known-taken program k.registers shown _ now in table-runs false (Some table) next k x.2
+      let x = known-taken program sizes (as_known k) shown _ now in table-runs false (Some table) next k x.2
   display-by None shown next k now = λ s stands cont safe.
-      let x = known-taken program k.registers shown _ now in
+      let x = known-taken program sizes (as_known k) shown _ now in
       let cells : List ℕ = with_message (chars_in x.0 s.store) s.screen in
       safe-same sizes holds lines most k.inside k.sent s (λ u. then_do (shows cells u) cont) (λ u. then_do (display_by None (requester deck program first sizes holds lines most) shown u) cont)
       (λ rest.
       let t : ProgramState = answered lines rest s in
       sym (ap (λ out. then_do out cont)
-      (taken-is (operand_taken program t shown) x.0 t (λ found. shows (with_message (chars_in found t.store) t.screen) t) (x.1 t stands.known.registers))))
+      (taken-is (operand_taken program t shown) x.0 t (λ found. shows (with_message (chars_in found t.store) t.screen) t) (x.1 t (stands-answered sizes k s stands lines rest)))))
       (shown-safe cells next k x.2 s stands cont safe)
 
-  pub display-runs : (shown : Operand) (next : RequesterMoment → Type 0) (k : RequesterMoment) → WithKnown program k.registers shown (λ found. next k)
+  pub display-runs : (shown : Operand) (next : RequesterMoment → Type 0) (k : RequesterMoment) → WithKnown program sizes (as_known k) shown (λ found. next k)
       → Runs sizes holds lines most (display (requester deck program first sizes holds lines most) shown) next k
   display-runs shown next k now = display-by (screen_in program shown) shown next k now
 

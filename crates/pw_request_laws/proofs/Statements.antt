@@ -13,7 +13,7 @@ use Rattle.pw_program_steps.specs.Meets.{BranchesOn, WithKnown}
 use Rattle.pw_program_steps.specs.Texts.{HaveSizes}
 use Rattle.pw_request_laws.proofs.Follows.{Safe, answered, follows-same}
 use Rattle.pw_request_laws.proofs.Forms.{abort-runs, arithmetic-runs, begin-runs, end-runs, leave-runs, move-runs, requester, restart-runs, send-runs, stop-runs}
-use Rattle.pw_request_laws.proofs.Runs.{Runs, counted-runs, here-runs, safe-same, stuck, taken-is, then-runs}
+use Rattle.pw_request_laws.proofs.Runs.{Runs, counted-runs, here-runs, safe-same, stands-answered, stuck, taken-is, then-runs}
 use Rattle.pw_request_laws.proofs.Screens.{accept-runs, display-runs, table-runs}
 use Rattle.pw_request_laws.specs.Requests.{BranchMeets, OneOfMeets, ParagraphMeets, RequesterMeets, RequesterMoment, TurnsMeet, as_known}
 use Rattle.pw_tree_meaning.proofs.trees.Taken.{holds-at}
@@ -78,17 +78,17 @@ module _ (deck : DeckModel) (program : Program) (first : ℕ) (sizes : List ℕ)
   chosen-runs (Some name) next k now each = counted-runs sizes holds lines most (perform name) next k (performs-runs name next k (each name refl))
 
   one_of-runs : (names : List Word) (position : Operand) (next : RequesterMoment → Type 0) (k : RequesterMoment)
-      → WithKnown program k.registers position (λ found. OneOfMeets deck program sizes holds performs names next k)
+      → WithKnown program sizes (as_known k) position (λ found. OneOfMeets deck program sizes holds performs names next k)
       → Runs sizes holds lines most (perform_one_of (requester deck program first sizes holds lines most) perform names position) next k
   one_of-runs names position next k now s stands cont safe =
-      let x = known-taken program k.registers position _ now in
+      let x = known-taken program sizes (as_known k) position _ now in
       let o : Option Word = at_position names (whole_part (number_of (value_in x.0 s.store))) in
       safe-same sizes holds lines most k.inside k.sent s (λ u. then_do (perform_chosen perform o u) cont)
       (λ u. then_do (perform_one_of (requester deck program first sizes holds lines most) perform names position u) cont)
       (λ rest.
       let t : ProgramState = answered lines rest s in
       sym (ap (λ out. then_do out cont)
-      (taken-is (operand_taken program t position) x.0 t (λ found. perform_chosen perform (at_position names (whole_part (number_of (value_in found t.store)))) t) (x.1 t stands.known.registers))))
+      (taken-is (operand_taken program t position) x.0 t (λ found. perform_chosen perform (at_position names (whole_part (number_of (value_in found t.store)))) t) (x.1 t (stands-answered sizes k s stands lines rest)))))
       (chosen-runs o next k (last-meets names next k x.2) (λ name is. position-meets names _ next k name x.2 is) s stands cont safe)
 
   -- the unit is as it was
@@ -104,7 +104,7 @@ module _ (deck : DeckModel) (program : Program) (first : ℕ) (sizes : List ℕ)
   Turned cond paragraph n o u =
       tested o (λ t. then_do (statement_counted (perform paragraph) t) (turns_until n (λ t. holds_now program t cond) (perform paragraph))) u
 
-  turned-runs : (cond : ConditionForm) (paragraph : Word) (n : ℕ) (next : RequesterMoment → Type 0) (k : RequesterMoment) → TurnsMeet deck program sizes holds performs paragraph next k
+  turned-runs : (cond : ConditionForm) (paragraph : Word) (n : ℕ) (next : RequesterMoment → Type 0) (k : RequesterMoment) → TurnsMeet deck program sizes holds performs zero cond paragraph next k
       → ((after : RequesterMoment) → Stays k after → Runs sizes holds lines most (turns_until n (λ t. holds_now program t cond) (perform paragraph)) next after)
       → (texts : List (List ℕ)) (registers : Registers) → HaveSizes sizes texts → (o : Option Bool)
       → Runs sizes holds lines most (Turned cond paragraph n o) next (record k { texts = texts; registers = registers })
@@ -122,7 +122,7 @@ module _ (deck : DeckModel) (program : Program) (first : ℕ) (sizes : List ℕ)
   ended-runs (Some true) next k now = here-runs sizes holds lines most next k now
   ended-runs (Some false) next k now = λ s stands cont safe. stuck sizes holds lines most k.inside k.sent s (λ u. then_do (faults 201 u) cont) (λ a fits. fits)
 
-  loop-runs : (cond : ConditionForm) (paragraph : Word) (next : RequesterMoment → Type 0) (k : RequesterMoment) → TurnsMeet deck program sizes holds performs paragraph next k
+  loop-runs : (cond : ConditionForm) (paragraph : Word) (next : RequesterMoment → Type 0) (k : RequesterMoment) → TurnsMeet deck program sizes holds performs zero cond paragraph next k
       → (n : ℕ) (texts : List (List ℕ)) (registers : Registers)
       → Runs sizes holds lines most (turns_until n (λ t. holds_now program t cond) (perform paragraph)) next (record k { texts = texts; registers = registers })
   loop-runs cond paragraph next k now zero texts registers s stands cont safe =
@@ -137,14 +137,44 @@ module _ (deck : DeckModel) (program : Program) (first : ℕ) (sizes : List ℕ)
       (λ after stays. subst P (same-moment k after stays) (loop-runs cond paragraph next k now n after.texts after.registers))
       texts registers stands.known.sized (holds_now program s cond) s stands cont safe)
 
-  until-runs : (cond : ConditionForm) (paragraph : Word) (next : RequesterMoment → Type 0) (k : RequesterMoment) → TurnsMeet deck program sizes holds performs paragraph next k
+  -- the first turns one by one
+  branched-runs : (cond : ConditionForm) (paragraph : Word) (turns n : ℕ) (next : RequesterMoment → Type 0) (k : RequesterMoment) (b : Bool)
+      → BranchesOn b (next k) (performs paragraph (TurnsMeet deck program sizes holds performs turns cond paragraph next) k)
+      → ((after : RequesterMoment) → TurnsMeet deck program sizes holds performs turns cond paragraph next after
+      → Runs sizes holds lines most (turns_until n (λ t. holds_now program t cond) (perform paragraph)) next after)
+      → Runs sizes holds lines most (Turned cond paragraph n (Some b)) next k
+  branched-runs cond paragraph turns n next k true now on = here-runs sizes holds lines most next k (now.0 refl)
+  branched-runs cond paragraph turns n next k false now on =
+      let Next : RequesterMoment → Type 0 = TurnsMeet deck program sizes holds performs turns cond paragraph next in
+      then-runs sizes holds lines most (statement_counted (perform paragraph)) (turns_until n (λ t. holds_now program t cond) (perform paragraph)) Next next k
+      (counted-runs sizes holds lines most (perform paragraph) Next k (performs-runs paragraph Next k (now.1 refl))) on
+
+  first-runs : (cond : ConditionForm) (paragraph : Word) (turns : ℕ) (next : RequesterMoment → Type 0) (k : RequesterMoment)
+      → TurnsMeet deck program sizes holds performs turns cond paragraph next k
+      → (n : ℕ) → Runs sizes holds lines most (turns_until n (λ t. holds_now program t cond) (perform paragraph)) next k
+  first-runs cond paragraph zero next k now n s stands cont safe = loop-runs cond paragraph next k now n k.texts k.registers s stands cont safe
+  first-runs cond paragraph (suc turns) next k now zero s stands cont safe =
+      let b = any-known program sizes (as_known k) s stands.known cond.any _ now in
+      by-condition cond (Some b.0) (λ o. tested o (faults 201)) next k s b.1 cont (at-end b.0 b.2)
+    where
+      at-end : (b : Bool) → BranchesOn b (next k) (performs paragraph (TurnsMeet deck program sizes holds performs turns cond paragraph next) k)
+          → Safe holds lines most k.inside k.sent s (λ u. then_do (tested (Some b) (faults 201) u) cont)
+      at-end true met = here-runs sizes holds lines most next k (met.0 refl) s stands cont safe
+      at-end false met = stuck sizes holds lines most k.inside k.sent s (λ u. then_do (faults 201 u) cont) (λ a fits. fits)
+  first-runs cond paragraph (suc turns) next k now (suc n) s stands cont safe =
+      let b = any-known program sizes (as_known k) s stands.known cond.any _ now in
+      by-condition cond (Some b.0) (Turned cond paragraph n) next k s b.1 cont
+      (branched-runs cond paragraph turns n next k b.0 b.2 (λ after met. first-runs cond paragraph turns next after met n) s stands cont safe)
+
+  until-runs : (cond : ConditionForm) (paragraph : Word) (next : RequesterMoment → Type 0) (k : RequesterMoment)
+      → (turns : ℕ) × TurnsMeet deck program sizes holds performs turns cond paragraph next k
       → Runs sizes holds lines most (perform_until (requester deck program first sizes holds lines most) (perform paragraph) cond) next k
   until-runs cond paragraph next k now s stands cont safe path le =
       let more : ℕ = most_counted + most_counted * most in
       follows-same holds k.inside k.sent (λ rest. then_do (turns_until more (λ t. holds_now program t cond) (perform paragraph) (answered lines rest s)) cont)
       (λ rest. then_do (perform_until (requester deck program first sizes holds lines most) (perform paragraph) cond (answered lines rest s)) cont) path
       (λ rest short. ap (λ out. then_do out cont) (untils paragraph cond (answered lines rest s) more (omega (arith, length-map rest (told lines), short, le))))
-      (loop-runs cond paragraph next k now more k.texts k.registers s stands cont safe path le)
+      (first-runs cond paragraph now.0 next k now.1 more s stands cont safe path le)
 
   -- ---- all statements
 
@@ -154,7 +184,15 @@ module _ (deck : DeckModel) (program : Program) (first : ℕ) (sizes : List ℕ)
   mutual
     pub statement-runs : (one : Statement) (next : RequesterMoment → Type 0) (k : RequesterMoment) → RequesterMeets deck program sizes holds performs one next k → Statement-runs one next k
     statement-runs (form.Move line from to) next k now = counted-runs sizes holds lines most (move_all (requester deck program first sizes holds lines most) from to) next k (move-runs deck program first sizes holds lines most from to next k now)
-    statement-runs (form.Arithmetic line a) next k now = counted-runs sizes holds lines most (arithmetic_on program a Goes Goes) next k (arithmetic-runs deck program first sizes holds lines most a next k now)
+    statement-runs (form.Arithmetic line a) next k now =
+        counted-runs sizes holds lines most (arithmetic_on program a Goes Goes) next k
+        (arithmetic-runs deck program first sizes holds lines most a next next next Goes Goes (here-runs sizes holds lines most next) (here-runs sizes holds lines most next) k now)
+    statement-runs (form.OnSizeError' line a n one m other) next k now =
+        counted-runs sizes holds lines most
+        (arithmetic_on program a (branch_row (requester deck program first sizes holds lines most) perform call one) (branch_row (requester deck program first sizes holds lines most) perform call other)) next k
+        (arithmetic-runs deck program first sizes holds lines most a (BranchMeets deck program sizes holds performs one next) (BranchMeets deck program sizes holds performs other next) next
+        (branch_row (requester deck program first sizes holds lines most) perform call one) (branch_row (requester deck program first sizes holds lines most) perform call other)
+        (λ k met. row-runs one next k met) (λ k met. row-runs other next k met) k now)
     statement-runs (form.If' line cond n one m other) next k now =
         counted-runs sizes holds lines most
         (λ u. branch (holds_now program u cond) (branch_row (requester deck program first sizes holds lines most) perform call one) (branch_row (requester deck program first sizes holds lines most) perform call other) u) next k

@@ -1,6 +1,7 @@
 -- What a requester's statements have to meet so that a fact holds of the requests of each unit that commits: by recursion on the
 -- statements, from what is known before each. A run fault, an end, and a unit that is dropped or begun anew meet all.
 use Rattle.std.specs.Prelude.{◌≡◌, ℕ, zero, suc, ◌+◌, Bool, true, false, List, [], ◌∷◌, ◌++◌, map, Some}
+use Rattle.pw_forms.specs.declared.cond.ConditionForm.{ConditionForm}
 use Rattle.pw_forms.specs.declared.lists.SendCode.{SendCode}
 use Rattle.pw_forms.specs.declared.statement.Paragraph.{Paragraph}
 use Rattle.pw_forms.specs.declared.statement.Statement.{Statement}
@@ -81,36 +82,42 @@ module _ (deck : DeckModel) (program : Program) (sizes : List ℕ) (holds : List
     OneOfMeets [] next k = next k
     OneOfMeets (paragraph ∷ rest) next k = performs paragraph next k × OneOfMeets rest next k
 
-    -- each turn leaves the unit as it is, whatever the items and registers are; of these nothing is known behind the loop
-    abbrev pub TurnsMeet : Word → (RequesterMoment → Type 0) → RequesterMoment → Type 0
-    TurnsMeet paragraph next k =
+    -- The first turns of a loop, each as it comes. Behind them each turn leaves the unit as it is, whatever the items and registers
+    -- are; of these nothing is known behind the loop.
+    abbrev pub TurnsMeet : ℕ → ConditionForm → Word → (RequesterMoment → Type 0) → RequesterMoment → Type 0
+    TurnsMeet zero cond paragraph next k =
         (texts : List (List ℕ)) (registers : Registers) → HaveSizes sizes texts
         → performs paragraph (λ after. (after.inside ≡ k.inside) × (after.sent ≡ k.sent)) (record k { texts = texts; registers = registers })
         × next (record k { texts = texts; registers = registers })
+    TurnsMeet (suc turns) cond paragraph next k =
+        AnyMeets program sizes (as_known k) cond.any (λ b. BranchesOn b (next k) (performs paragraph (TurnsMeet turns cond paragraph next) k))
 
     abbrev mutual
       -- what follows has to be met behind the statement; of statements that are not spoken of nothing can be shown
       pub RequesterMeets : Statement → (RequesterMoment → Type 0) → RequesterMoment → Type 0
       RequesterMeets (form.Move line from to) next k =
-          WithKnown program k.registers from (λ source. WithAllKnown program k.registers to (λ targets.
+          WithKnown program sizes (as_known k) from (λ source. WithAllKnown program sizes (as_known k) to (λ targets.
           next (record k { texts = with_moves source (map spot_in targets) sizes k.texts })))
       RequesterMeets (form.Arithmetic line a) next k =
           ArithmeticMeets deck program sizes [] (λ reply files. Unit {0}) a (λ known. next (with_known k known)) (λ known. next (with_known k known)) (as_known k)
+      RequesterMeets (form.OnSizeError' line a n first m second) next k =
+          ArithmeticMeets deck program sizes [] (λ reply files. Unit {0}) a (λ known. BranchMeets first next (with_known k known))
+          (λ known. BranchMeets second next (with_known k known)) (as_known k)
       RequesterMeets (form.If' line cond n first m second) next k =
           AnyMeets program sizes (as_known k) cond.any (λ b. BranchesOn b (BranchMeets first next k) (BranchMeets second next k))
       RequesterMeets (form.Perform line paragraph) next k = performs paragraph next k
-      RequesterMeets (form.PerformUntil line paragraph cond) next k = TurnsMeet paragraph next k
+      RequesterMeets (form.PerformUntil line paragraph cond) next k = (turns : ℕ) × TurnsMeet turns cond paragraph next k
       RequesterMeets (form.PerformOneOf line paragraphs position) next k =
-          WithKnown program k.registers position (λ found. OneOfMeets paragraphs next k)
+          WithKnown program sizes (as_known k) position (λ found. OneOfMeets paragraphs next k)
       RequesterMeets (form.Exit line) next k = next k
       RequesterMeets (form.ExitProgram line) next k = Unit {0}
       RequesterMeets (form.StopRun line) next k = Unit {0}
       RequesterMeets (form.DisplayBase line screen) next k = next k
-      RequesterMeets (form.Display line shown) next k = WithKnown program k.registers shown (λ found. next k)
+      RequesterMeets (form.Display line shown) next k = WithKnown program sizes (as_known k) shown (λ found. next k)
       RequesterMeets (form.Accept line screen keys) next k =
           (texts : List (List ℕ)) (registers : Registers) → HaveSizes sizes texts → next (record k { texts = texts; registers = registers })
       RequesterMeets (form.Send line message class codes) next k =
-          WithKnown program k.registers message (λ found. WithAllKnown program k.registers (yields_of codes) (λ items.
+          WithKnown program sizes (as_known k) message (λ found. WithAllKnown program sizes (as_known k) (yields_of codes) (λ items.
           SendMeets (as_it_stands (said sizes k.texts found)) (class_number deck class) codes (map spot_in items) next k))
       RequesterMeets (form.Begin line) next k = BeginMeets k.inside next k
       RequesterMeets (form.End line) next k = EndMeets k.inside next k
