@@ -1,5 +1,5 @@
 -- What ACCOUNT-P's statements have to meet, and that they do.
-use Rattle.std.proofs.Common.{◌≡◌, ℕ, Bool, true, false, List, [], ◌∷◌, ◌++◌, take, drop, if◌then◌else◌, Some, refl, pos}
+use Rattle.std.proofs.Common.{◌≡◌, ℕ, Bool, true, false, List, [], ◌∷◌, ◌++◌, take, drop, Some, refl, pos}
 use Rattle.std.specs.Prelude.{bytes_eq, codes}
 use Rattle.std.specs.Ordering.{is_eq}
 use Rattle.std.proofs.lemmas.Bool.{false≢true, true≢false}
@@ -15,6 +15,7 @@ use Rattle.pw_onecopy.specs.Update.{upd}
 use Rattle.pw_picture.specs.declared.picture.Picture.TheVariants.{Text as TextPicture}
 use Rattle.pw_picture.specs.Stored.{moved, read_of}
 use Rattle.pw_picture.specs.Text.{fitted}
+use Rattle.pw_program_steps.proofs.Parts.{not-there}
 use Rattle.pw_program_steps.specs.Known.{KnownMoment}
 use Rattle.pw_program_steps.specs.Meets.{BodyMeets, FlowMeets, PerformMeets, ServerMeets, received}
 use Rattle.pw_tree_meaning.specs.Conditions.{compared}
@@ -71,10 +72,6 @@ abbrev pub files_with : FileRecords → List (List ℕ) → List ℕ → FileRec
 files_with files lines content =
     let written = upd files 1 lines in
     upd written 0 (with_record 4 (written 0) content)
-
-not-there : (b : Bool) → (if b then false else true) ≡ true → b ≡ false
-not-there true e = absurd (false≢true e)
-not-there false e = refl
 
 module _ (bank : BankChoices) (message : List ℕ) (replies : List ℕ → FileRecords → Type 0) where
   -- statements of MAIN, and what is behind it, have to be met

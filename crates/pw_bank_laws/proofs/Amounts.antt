@@ -1,8 +1,6 @@
 -- Amounts that TELLER sends, and that a debit and its credit balance.
-use Rattle.std.proofs.Common.{◌≡◌, ℕ, zero, suc, ◌%◌, ◌^◌, ◌<◌, ◌≤◌, Bool, true, false, ◌&&◌, List, [], ◌∷◌, ◌++◌, length, take, drop, if◌then◌else◌, nat_lt, Some, None, Ok, Err, ℤ, pos, negsuc, neg_ℤ, ◌+ℤ◌, unsigned_abs, refl, sym, ap, ◌∙◌, arith, IsTrue}
-use Rattle.std.specs.Prelude.{bytes_eq, codes, int_lt}
-use Rattle.std.proofs.lemmas.Bool.Decides.{nat_tests}
-use Rattle.std.proofs.lemmas.Bool.{lt-ltb}
+use Rattle.std.proofs.Common.{◌≡◌, ℕ, zero, suc, ◌^◌, ◌<◌, Bool, true, false, ◌&&◌, List, [], ◌∷◌, ◌++◌, length, take, drop, if◌then◌else◌, Some, ℤ, pos, neg_ℤ, ◌+ℤ◌, unsigned_abs, refl, sym, ap, ◌∙◌, arith}
+use Rattle.std.specs.Prelude.{bytes_eq, codes}
 use Rattle.std.proofs.lemmas.Int.{ints}
 use Rattle.std.proofs.lemmas.List.{length-append, take_all}
 use Rattle.pw_bank_laws.proofs.Numbers.{seven}
@@ -10,62 +8,26 @@ use Rattle.pw_bank_laws.specs.Balances.{amount_in, posted}
 use Rattle.pw_invariants.specs.Invariants.{stepped}
 use Rattle.pw_invariants.specs.Requests.{RepliedRequest}
 use Rattle.pw_number.specs.Arithmetic.{difference, sized}
-use Rattle.pw_number.specs.Number.{Number, is_short, number}
-use Rattle.pw_number.specs.Sign.{signed}
-use Rattle.pw_picture.proofs.Digits.{size_at-own}
-use Rattle.pw_picture.proofs.Reading.{read-moved}
-use Rattle.pw_picture.specs.Stored.{digit_of, is_kept, is_negative, moved, read_of, size_at, value_of}
-use Rattle.pw_picture.specs.Symbols.{begins_with}
+use Rattle.pw_number.specs.Number.{Number, number}
+use Rattle.pw_picture.specs.Stored.{moved, value_of}
 use Rattle.pw_picture.specs.Text.{fitted}
-use Rattle.pw_program_steps.proofs.Parts.{drop-first, fitted-whole, length-digits}
+use Rattle.pw_program_steps.proofs.Amounts.{amount-long, amount-received, amount-units, units_in, value-below}
+use Rattle.pw_program_steps.proofs.Parts.{drop-first, fitted-whole}
 use Rattle.pw_program_steps.specs.Meets.{received}
-
--- the units of an amount with a sign
-abbrev pub units_in : List ℕ → ℤ
-units_in chars = signed (begins_with 45 chars) (value_of 0 (drop 1 chars))
-
-digit-small : (char : ℕ) → digit_of char ≤ 9
-digit-small char = grind (arith, nat_tests)
 
 -- seven digits are below ten millions
 pub seven-digits : (chars : List ℕ) → length chars ≡ 7 → value_of 0 chars < 10 ^ 7
-seven-digits (a ∷ b ∷ c ∷ d ∷ e ∷ f ∷ g ∷ []) long =
-    omega (arith, digit-small a, digit-small b, digit-small c, digit-small d, digit-small e, digit-small f, digit-small g)
-seven-digits [] long = absurd (omega (arith, long))
-seven-digits (a ∷ []) long = absurd (omega (arith, long))
-seven-digits (a ∷ b ∷ []) long = absurd (omega (arith, long))
-seven-digits (a ∷ b ∷ c ∷ []) long = absurd (omega (arith, long))
-seven-digits (a ∷ b ∷ c ∷ d ∷ []) long = absurd (omega (arith, long))
-seven-digits (a ∷ b ∷ c ∷ d ∷ e ∷ []) long = absurd (omega (arith, long))
-seven-digits (a ∷ b ∷ c ∷ d ∷ e ∷ f ∷ []) long = absurd (omega (arith, long))
-seven-digits (a ∷ b ∷ c ∷ d ∷ e ∷ f ∷ g ∷ h ∷ rest) long = absurd (omega (arith, long))
-
-not-below : (m : ℕ) → int_lt (pos m) (pos 0) ≡ false
-not-below m = grind (arith, nat_tests)
-
-signed-again : (u : ℤ) → signed (int_lt u (pos 0)) (unsigned_abs u) ≡ u
-signed-again (pos m) = ap (λ (b : Bool). signed b m) (not-below m)
-signed-again (negsuc m) = refl
+seven-digits chars long =
+    let power : 10 ^ length chars ≡ 10 ^ 7 = ap (λ k. 10 ^ k) long in
+    omega (arith, value-below 0 chars, power)
 
 -- what is stored of a number of two places and of seven digits
 module _ (n : Number) (two : n.places ≡ 2) (small : unsigned_abs n.units < 10 ^ 7) where
-  size-own : unsigned_abs n.units ≡ size_at 2 n
-  size-own = size_at-own n 2 (unsigned_abs n.units) n.places refl refl two
-
-  room-test : (size : ℕ) → size < 10 ^ 7 → (nat_lt size (10 ^ 7) && true) ≡ true
-  room-test size lt = ap (λ b. b && true) (lt-ltb size (10 ^ 7) lt)
-
-  pub seven-kept : is_kept seven n ≡ true
-  seven-kept = room-test (size_at 2 n) (omega (arith, size-own, small))
-
   pub seven-units : units_in (moved seven n) ≡ n.units
-  seven-units =
-      let kept : IsTrue (is_kept seven n) = seven-kept in
-      let read : read_of seven (moved seven n) ≡ number (signed (is_negative n) (size_at 2 n)) 2 = read-moved 7 2 true n kept in
-      ap (λ (m : Number). m.units) read ∙ ap (λ (k : ℕ). signed (is_negative n) k) (sym size-own) ∙ signed-again n.units
+  seven-units = amount-units 7 2 n two small
 
   pub seven-long : length (moved seven n) ≡ 8
-  seven-long = let digits = length-digits 7 (size_at 2 n % 10 ^ 7) in omega (arith, digits)
+  seven-long = amount-long 7 2 n two small
 
 -- the amount, and what is taken from zero
 abbrev pub amount_of : List ℕ → Number
@@ -86,21 +48,9 @@ debit-small chars long =
     let own : unsigned_abs (debit_of chars).units ≡ value_of 0 chars = ap unsigned_abs (debit-units chars) ∙ abs-neg (value_of 0 chars) in
     omega (arith, own, seven-digits chars long)
 
-short-by : (b : Bool) (n : Number) (error : _) → b ≡ true → received (Some seven) (if b then Ok n else Err error) ≡ received (Some seven) (Ok n)
-short-by true n error e = refl
-short-by false n error e = absurd cc
-
-kept-by : (b : Bool) (n : Number) → b ≡ true → (if b then Some (moved seven n) else None) ≡ Some (moved seven n)
-kept-by true n e = refl
-kept-by false n e = absurd cc
-
 -- SUBTRACT AMOUNT FROM 0 is never a size error
 pub debit-received : (chars : List ℕ) → length chars ≡ 7 → received (Some seven) (sized (debit_of chars)) ≡ Some (moved seven (debit_of chars))
-debit-received chars long =
-    let n : Number = debit_of chars in
-    let small : unsigned_abs n.units < 10 ^ 7 = debit-small chars long in
-    short-by (is_short n) n _ (lt-ltb (unsigned_abs n.units) (10 ^ 30) (omega (arith, small)))
-    ∙ kept-by (is_kept seven n) n (seven-kept n refl small)
+debit-received chars long = amount-received 7 2 (debit_of chars) refl (debit-small chars long) _ (omega (arith, debit-small chars long))
 
 pub debit-value : (chars got : List ℕ) → length chars ≡ 7 → received (Some seven) (sized (debit_of chars)) ≡ Some got
     → units_in (fitted 8 got) ≡ neg_ℤ (pos (value_of 0 chars))

@@ -3,7 +3,6 @@ pub mod Tellers
 pub mod Read
 pub mod Numbers
 pub mod Amounts
-pub mod Codes
 pub mod Account
 pub mod Total
 pub mod Posts

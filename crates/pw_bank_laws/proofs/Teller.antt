@@ -1,12 +1,11 @@
 -- What TELLER's statements have to meet, and that they do: the requests of each unit balance.
-use Rattle.std.proofs.Common.{◌≡◌, ℕ, ◌+◌, Bool, true, false, List, [], ◌∷◌, ◌++◌, length, take, replicate, Some, None, pos, neg_ℤ, ◌+ℤ◌, refl, sym, ap, ◌∙◌}
+use Rattle.std.proofs.Common.{◌≡◌, ℕ, ◌+◌, Bool, true, false, List, [], ◌∷◌, ◌++◌, length, take, replicate, Some, None, pos, neg_ℤ, ◌+ℤ◌, refl, sym, ap, ◌∙◌, subst}
 use Rattle.std.specs.Prelude.{bytes_eq, codes}
 use Rattle.std.specs.Ordering.{is_eq}
 use Rattle.std.proofs.lemmas.Bool.{false≢true, true≢false}
 use Rattle.pw_bank_laws.proofs.Amounts.{Balance, Posted, amount_of, asked_of, credit-first, credit-value, debit-first, debit-received, debit-value, debit_of, posting-posts, posting_of}
-use Rattle.pw_bank_laws.proofs.Codes.{sent-cases}
 use Rattle.pw_bank_laws.proofs.Numbers.{seven}
-use Rattle.pw_bank_laws.proofs.Tellers.{money_moved, money_settled, next_shown, next_taken, post_answered, teller_program}
+use Rattle.pw_bank_laws.proofs.Tellers.{code, money_moved, money_settled, next_shown, next_taken, post_answered, teller_program}
 use Rattle.pw_program_steps.proofs.Trees.{move, own}
 use Rattle.pw_bank_laws.specs.Servers.{BankChoices}
 use Rattle.pw_bank_laws.specs.Teller.{teller_bank}
@@ -19,9 +18,10 @@ use Rattle.pw_number.specs.Arithmetic.{sized}
 use Rattle.pw_picture.specs.Stored.{moved, value_of}
 use Rattle.pw_picture.specs.Text.{fitted}
 use Rattle.pw_picture.specs.declared.picture.Picture.TheVariants.{Text as TextPicture}
-use Rattle.pw_program_steps.proofs.Texts.{length-fitted}
+use Rattle.pw_program_steps.proofs.Texts.{length-fitted, parted, text_no, texts-parted}
 use Rattle.pw_program_steps.specs.Meets.{received}
 use Rattle.pw_program_steps.specs.Texts.{HaveSizes, with_moved}
+use Rattle.pw_request_laws.proofs.Codes.{reply-cases}
 use Rattle.pw_request_laws.specs.Requests.{BranchMeets, ParagraphMeets, ProgramMeets, RequesterMoment, TurnMeets}
 use Rattle.pw_tree_meaning.specs.Conditions.{compared}
 use Rattle.pw_tree_meaning.specs.State.{Registers}
@@ -90,32 +90,43 @@ module _ (screens : List ScreenTable) (bank : BankChoices) where
     post-meets next op account other posted answer payer registers sent ok bad = λ reply. (
       tt,
       λ place found.
-          sent-cases reply answer_spot place
+          reply-cases reply
           (λ (place : ℕ × Spot). Part 59 post_answered next (record {
             texts = with_moved (Text' reply) place.1 teller_sizes (texts blank (codes "P") account other posted answer payer);
             registers = record registers { termination = place.0 + 1 };
             inside = true;
             sent = sent ++ asked_of (posting_of account other posted) reply ∷ [];
           }))
+          (code 0 (codes "ANSWER")) (code 1 (codes "ANSWER") ∷ code 2 (codes "ANSWER") ∷ code 3 (codes "ANSWER") ∷ [])
+          answer_spot (answer_spot ∷ answer_spot ∷ answer_spot ∷ []) place refl
           (λ zero_code. (λ x. absurd (false≢true x), λ x. (λ y. absurd (false≢true y), λ y. (λ z. absurd (false≢true z), λ z. ok reply zero_code)))) (
-            λ x. (
-              λ y. (λ z. absurd (false≢true z), λ z. (λ w. absurd (false≢true w), λ w. bad reply (fitted 40 (codes "FROM: NO SUCH ACCOUNT")) 2 refl)),
-              λ y. (λ z. absurd (false≢true z), λ z. (λ w. absurd (false≢true w), λ w. bad reply (fitted 40 (codes "TO: NO SUCH ACCOUNT")) 2 refl)),
+            (
+              λ x. (
+                λ y. (λ z. absurd (false≢true z), λ z. (λ w. absurd (false≢true w), λ w. bad reply (fitted 40 (codes "FROM: NO SUCH ACCOUNT")) 2 refl)),
+                λ y. (λ z. absurd (false≢true z), λ z. (λ w. absurd (false≢true w), λ w. bad reply (fitted 40 (codes "TO: NO SUCH ACCOUNT")) 2 refl)),
+              ),
+              λ x. absurd (true≢false x),
             ),
-            λ x. absurd (true≢false x),
-          ) (
-            λ x. absurd (false≢true x),
-            λ x. (
-              λ y. (λ z. absurd (false≢true z), λ z. bad reply (fitted 40 (codes "NOT ENOUGH MONEY")) 3 refl),
-              λ y. absurd (true≢false y),
-            ),
-          ) (
-            λ x. absurd (false≢true x),
-            λ x. (
-              λ y. absurd (false≢true y),
-              λ y. (
-                λ z. bad reply (fitted 40 (codes "THE ACCOUNT IS FULL")) 4 refl,
-                λ z. absurd (true≢false z),
+            (
+              (
+                λ x. absurd (false≢true x),
+                λ x. (
+                  λ y. (λ z. absurd (false≢true z), λ z. bad reply (fitted 40 (codes "NOT ENOUGH MONEY")) 3 refl),
+                  λ y. absurd (true≢false y),
+                ),
+              ),
+              (
+                (
+                  λ x. absurd (false≢true x),
+                  λ x. (
+                    λ y. absurd (false≢true y),
+                    λ y. (
+                      λ z. bad reply (fitted 40 (codes "THE ACCOUNT IS FULL")) 4 refl,
+                      λ z. absurd (true≢false z),
+                    ),
+                  ),
+                ),
+                tt,
               ),
             ),
           )
@@ -290,16 +301,6 @@ module _ (screens : List ScreenTable) (bank : BankChoices) where
   finish : (texts : List (List ℕ)) (registers : Registers) → Finish (record { texts = texts; registers = registers; inside = false; sent = [] })
   finish texts registers = (λ e. (refl, refl), λ e. (refl, refl))
 
-  -- the texts of items of known sizes, one by one
-  first-text : (size : ℕ) (sizes : List ℕ) (all : List (List ℕ)) → HaveSizes (size ∷ sizes) all → (P : List (List ℕ) → Type 0)
-      → ((text : List ℕ) (rest : List (List ℕ)) → length text ≡ size → HaveSizes sizes rest → P (text ∷ rest)) → P all
-  first-text size sizes [] sized P each = absurd sized
-  first-text size sizes (text ∷ rest) sized P each = each text rest sized.0 sized.1
-
-  no-text : (all : List (List ℕ)) → HaveSizes [] all → (P : List (List ℕ) → Type 0) → P [] → P all
-  no-text [] sized P now = now
-  no-text (text ∷ rest) sized P now = absurd sized
-
   -- behind an entry
   abbrev Entered : Registers → List (List ℕ) → Type 0
   Entered registers all = Part 63 next_taken (λ after. (after.inside ≡ false) × (after.sent ≡ [])) (record { texts = all; registers = registers; inside = false; sent = [] })
@@ -322,25 +323,10 @@ module _ (screens : List ScreenTable) (bank : BankChoices) where
 
   request-meets : (all : List (List ℕ)) (registers : Registers) → HaveSizes teller_sizes all → Entered registers all
   request-meets all registers sized =
-      first-text 1 (40 ∷ 4 ∷ 4 ∷ 7 ∷ 1 ∷ 4 ∷ 4 ∷ 8 ∷ 36 ∷ 36 ∷ 4 ∷ 15 ∷ 9 ∷ 8 ∷ 4 ∷ 4 ∷ 10 ∷ []) all sized (λ xs. Entered registers (xs)) (λ done rest0 long0 sized0.
-      first-text 40 (4 ∷ 4 ∷ 7 ∷ 1 ∷ 4 ∷ 4 ∷ 8 ∷ 36 ∷ 36 ∷ 4 ∷ 15 ∷ 9 ∷ 8 ∷ 4 ∷ 4 ∷ 10 ∷ []) rest0 sized0 (λ xs. Entered registers (done ∷ xs)) (λ message rest1 long1 sized1.
-      first-text 4 (4 ∷ 7 ∷ 1 ∷ 4 ∷ 4 ∷ 8 ∷ 36 ∷ 36 ∷ 4 ∷ 15 ∷ 9 ∷ 8 ∷ 4 ∷ 4 ∷ 10 ∷ []) rest1 sized1 (λ xs. Entered registers (done ∷ message ∷ xs)) (λ from rest2 long2 sized2.
-      first-text 4 (7 ∷ 1 ∷ 4 ∷ 4 ∷ 8 ∷ 36 ∷ 36 ∷ 4 ∷ 15 ∷ 9 ∷ 8 ∷ 4 ∷ 4 ∷ 10 ∷ []) rest2 sized2 (λ xs. Entered registers (done ∷ message ∷ from ∷ xs)) (λ to rest3 long3 sized3.
-      first-text 7 (1 ∷ 4 ∷ 4 ∷ 8 ∷ 36 ∷ 36 ∷ 4 ∷ 15 ∷ 9 ∷ 8 ∷ 4 ∷ 4 ∷ 10 ∷ []) rest3 sized3 (λ xs. Entered registers (done ∷ message ∷ from ∷ to ∷ xs)) (λ amount rest4 long4 sized4.
-      first-text 1 (4 ∷ 4 ∷ 8 ∷ 36 ∷ 36 ∷ 4 ∷ 15 ∷ 9 ∷ 8 ∷ 4 ∷ 4 ∷ 10 ∷ []) rest4 sized4 (λ xs. Entered registers (done ∷ message ∷ from ∷ to ∷ amount ∷ xs)) (λ op rest5 long5 sized5.
-      first-text 4 (4 ∷ 8 ∷ 36 ∷ 36 ∷ 4 ∷ 15 ∷ 9 ∷ 8 ∷ 4 ∷ 4 ∷ 10 ∷ []) rest5 sized5 (λ xs. Entered registers (done ∷ message ∷ from ∷ to ∷ amount ∷ op ∷ xs)) (λ account rest6 long6 sized6.
-      first-text 4 (8 ∷ 36 ∷ 36 ∷ 4 ∷ 15 ∷ 9 ∷ 8 ∷ 4 ∷ 4 ∷ 10 ∷ []) rest6 sized6 (λ xs. Entered registers (done ∷ message ∷ from ∷ to ∷ amount ∷ op ∷ account ∷ xs)) (λ other rest7 long7 sized7.
-      first-text 8 (36 ∷ 36 ∷ 4 ∷ 15 ∷ 9 ∷ 8 ∷ 4 ∷ 4 ∷ 10 ∷ []) rest7 sized7 (λ xs. Entered registers (done ∷ message ∷ from ∷ to ∷ amount ∷ op ∷ account ∷ other ∷ xs)) (λ posted rest8 long8 sized8.
-      first-text 36 (36 ∷ 4 ∷ 15 ∷ 9 ∷ 8 ∷ 4 ∷ 4 ∷ 10 ∷ []) rest8 sized8 (λ xs. Entered registers (done ∷ message ∷ from ∷ to ∷ amount ∷ op ∷ account ∷ other ∷ posted ∷ xs)) (λ answer rest9 long9 sized9.
-      first-text 36 (4 ∷ 15 ∷ 9 ∷ 8 ∷ 4 ∷ 4 ∷ 10 ∷ []) rest9 sized9 (λ xs. Entered registers (done ∷ message ∷ from ∷ to ∷ amount ∷ op ∷ account ∷ other ∷ posted ∷ answer ∷ xs)) (λ payer rest10 long10 sized10.
-      first-text 4 (15 ∷ 9 ∷ 8 ∷ 4 ∷ 4 ∷ 10 ∷ []) rest10 sized10 (λ xs. Entered registers (done ∷ message ∷ from ∷ to ∷ amount ∷ op ∷ account ∷ other ∷ posted ∷ answer ∷ payer ∷ xs)) (λ a rest11 long11 sized11.
-      first-text 15 (9 ∷ 8 ∷ 4 ∷ 4 ∷ 10 ∷ []) rest11 sized11 (λ xs. Entered registers (done ∷ message ∷ from ∷ to ∷ amount ∷ op ∷ account ∷ other ∷ posted ∷ answer ∷ payer ∷ a ∷ xs)) (λ b rest12 long12 sized12.
-      first-text 9 (8 ∷ 4 ∷ 4 ∷ 10 ∷ []) rest12 sized12 (λ xs. Entered registers (done ∷ message ∷ from ∷ to ∷ amount ∷ op ∷ account ∷ other ∷ posted ∷ answer ∷ payer ∷ a ∷ b ∷ xs)) (λ c rest13 long13 sized13.
-      first-text 8 (4 ∷ 4 ∷ 10 ∷ []) rest13 sized13 (λ xs. Entered registers (done ∷ message ∷ from ∷ to ∷ amount ∷ op ∷ account ∷ other ∷ posted ∷ answer ∷ payer ∷ a ∷ b ∷ c ∷ xs)) (λ d rest14 long14 sized14.
-      first-text 4 (4 ∷ 10 ∷ []) rest14 sized14 (λ xs. Entered registers (done ∷ message ∷ from ∷ to ∷ amount ∷ op ∷ account ∷ other ∷ posted ∷ answer ∷ payer ∷ a ∷ b ∷ c ∷ d ∷ xs)) (λ before rest15 long15 sized15.
-      first-text 4 (10 ∷ []) rest15 sized15 (λ xs. Entered registers (done ∷ message ∷ from ∷ to ∷ amount ∷ op ∷ account ∷ other ∷ posted ∷ answer ∷ payer ∷ a ∷ b ∷ c ∷ d ∷ before ∷ xs)) (λ e rest16 long16 sized16.
-      first-text 10 ([]) rest16 sized16 (λ xs. Entered registers (done ∷ message ∷ from ∷ to ∷ amount ∷ op ∷ account ∷ other ∷ posted ∷ answer ∷ payer ∷ a ∷ b ∷ c ∷ d ∷ before ∷ e ∷ xs)) (λ f rest17 long17 sized17.
-      no-text rest17 sized17 (λ xs. Entered registers (done ∷ message ∷ from ∷ to ∷ amount ∷ op ∷ account ∷ other ∷ posted ∷ answer ∷ payer ∷ a ∷ b ∷ c ∷ d ∷ before ∷ e ∷ f ∷ xs)) (entered-meets done message from to amount op account other posted answer payer a b c d before e f registers long4)))))))))))))))))))
+      let same = texts-parted teller_sizes all sized in
+      let parts : HaveSizes teller_sizes (parted teller_sizes all) = subst (HaveSizes teller_sizes) same sized in
+      subst (Entered registers) (sym same)
+      (entered-meets (text_no 0 all) (text_no 1 all) (text_no 2 all) (text_no 3 all) (text_no 4 all) (text_no 5 all) (text_no 6 all) (text_no 7 all) (text_no 8 all) (text_no 9 all) (text_no 10 all) (text_no 11 all) (text_no 12 all) (text_no 13 all) (text_no 14 all) (text_no 15 all) (text_no 16 all) (text_no 17 all) registers parts.1.1.1.1.0)
 
   pub teller-meets : ProgramMeets (teller_bank screens bank) (teller_program screens) teller_sizes Balance
   teller-meets = (0, λ all registers sized. (λ others after_registers others_sized. request-meets others after_registers others_sized, tt))

@@ -125,7 +125,7 @@ credit =
     end_of-Statement
     ∷ []
 
-abbrev code : ℕ → List ℕ → SendCode
+abbrev pub code : ℕ → List ℕ → SendCode
 code number name = record { number = number; yields = own name }
 
 abbrev pub post_codes : List SendCode

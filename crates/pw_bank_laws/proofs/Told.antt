@@ -8,7 +8,7 @@ use Rattle.std.proofs.lemmas.Int.{ints}
 use Rattle.std.proofs.lemmas.List.{drop-drop, take_all}
 use Rattle.std.proofs.lemmas.Bool.{true≢false}
 use Rattle.pw_bank_laws.proofs.Account.{digits_in, files_with, line_with, message_account, message_amount, message_other, record_with, who_in}
-use Rattle.pw_bank_laws.proofs.Amounts.{seven-digits, seven-long, seven-units, units_in}
+use Rattle.pw_bank_laws.proofs.Amounts.{seven-digits, seven-long, seven-units}
 use Rattle.pw_bank_laws.proofs.Numbers.{added-balance, nine, seven, three}
 use Rattle.pw_bank_laws.proofs.Posts.{balance-with, digits-chars, key-with, not-zero}
 use Rattle.pw_bank_laws.specs.Balances.{balance_in}
@@ -24,6 +24,7 @@ use Rattle.pw_onecopy.specs.Update.{upd}
 use Rattle.pw_picture.specs.Stored.{moved, read_of, value_of}
 use Rattle.pw_picture.specs.Symbols.{begins_with}
 use Rattle.pw_picture.specs.Text.{fitted}
+use Rattle.pw_program_steps.proofs.Amounts.{units_in}
 use Rattle.pw_program_steps.proofs.Parts.{bytes-same, bytes-self, drop-first, fitted-whole, take-first}
 use Rattle.pw_program_steps.proofs.Texts.{length-fitted}
 use Rattle.pw_program_steps.specs.Meets.{received}

@@ -3,7 +3,7 @@ use Rattle.std.proofs.Common.{◌≡◌, ◌≢◌, ℕ, zero, suc, ◌+◌, ◌
 use Rattle.std.specs.Prelude.{bytes_eq, codes}
 use Rattle.std.proofs.lemmas.Bool.{cases_lt, true≢false}
 use Rattle.pw_code.specs.declared.lock.LockRule.{LockRule}
-use Rattle.pw_files.proofs.Lookups.{record_at-with_other, record_at-with_record}
+use Rattle.pw_files.proofs.Lookups.{record_at-found, record_at-with_other, record_at-with_record}
 use Rattle.pw_files.specs.Records.{has_key, record_at, with_record}
 use Rattle.pw_invariants.specs.Servers.{ServersKeep}
 use Rattle.pw_invariants.specs.Units.{FileRecords}
@@ -14,13 +14,13 @@ use Rattle.pw_onecopy.specs.Update.{upd}
 use Rattle.pw_order_laws.proofs.Numbers.{control-key, control-number, control_with, four, moved-again, next-kept, next_of, read-number}
 use Rattle.pw_order_laws.proofs.Order.{control_digits, files_with, order-meets, order_sizes, order_with}
 use Rattle.pw_order_laws.proofs.Read.{order-is, stock-is}
-use Rattle.pw_order_laws.proofs.Stock.{stock-meets, stock_sizes}
+use Rattle.pw_order_laws.proofs.Stock.{delivered_read, message_item, stock-meets, stock_sizes, stock_with}
 use Rattle.pw_order_laws.proofs.Trees.{order_program, stock_program}
 use Rattle.pw_order_laws.specs.Numbered.{IsNumbered, last_number, number_in_control}
 use Rattle.pw_order_laws.specs.Servers.{OrderChoices, order_data, order_deck, order_text, stock_data, stock_text}
 use Rattle.pw_picture.specs.Stored.{digits_of, moved, read_of, value_of}
 use Rattle.pw_picture.specs.Text.{fitted}
-use Rattle.pw_program_steps.proofs.Parts.{bytes-same, bytes-self, take-first}
+use Rattle.pw_program_steps.proofs.Parts.{bytes-same, bytes-self, key-fitted, take-first}
 use Rattle.pw_program_steps.proofs.Servers.{program-replies}
 use Rattle.pw_program_steps.proofs.Texts.{length-fitted}
 use Rattle.pw_program_steps.specs.Meets.{ServerMeets, received}
@@ -45,10 +45,21 @@ same-files records left control orders now =
           (found.0, found.1, omega (arith, found.2, last), found.3);
     }
 
-differ : (a b : ℕ) → (a ≡ b → ⊥) → ◌≢◌ {A = ℕ} a b
+pub differ : (a b : ℕ) → (a ≡ b → ⊥) → ◌≢◌ {A = ℕ} a b
 differ a b no' = no'
 
 -- ---- one order more
+
+-- the files with an order
+pub orders-written : (files : FileRecords) (order control : List ℕ) → files_with files order control 2 ≡ with_record 4 (files 2) order
+orders-written files order control =
+    upd-other (upd files 2 (with_record 4 (files 2) order)) 1 _ 2 (differ 2 1 (λ e. absurd cc))
+    ∙ upd-same files 2 (with_record 4 (files 2) order) 2 refl
+
+pub stock-stays : (files : FileRecords) (order control : List ℕ) → files_with files order control 0 ≡ files 0
+stock-stays files order control =
+    upd-other (upd files 2 (with_record 4 (files 2) order)) 1 _ 0 (differ 0 1 (λ e. absurd cc))
+    ∙ upd-other files 2 (with_record 4 (files 2) order) 0 (differ 0 2 (λ e. absurd cc))
 
 -- one text is another, or not
 one-or-other : (xs ys : List ℕ) → (xs ≡ ys) ⊎ (xs ≡ ys → ⊥)
@@ -88,9 +99,7 @@ module _ (records : FileRecords) (now : IsNumbered records) (content number mess
       ∙ ap (λ xs. with_record 4 xs control) (upd-other records 2 (with_record 4 (records 2) order) 1 (differ 1 2 (λ e. absurd cc)))
 
   left-orders : left 2 ≡ with_record 4 (records 2) order
-  left-orders =
-      upd-other (upd records 2 (with_record 4 (records 2) order)) 1 _ 2 (differ 2 1 (λ e. absurd cc))
-      ∙ upd-same records 2 (with_record 4 (records 2) order) 2 refl
+  left-orders = orders-written records order control
 
   left-last : last_number left ≡ m
   left-last =
@@ -141,7 +150,7 @@ module _ (records : FileRecords) (now : IsNumbered records) (content number mess
   }
 
 -- CONTROL has its record when it is rewritten
-control-there : (files : FileRecords) (order content number : List ℕ) → record_at 4 (files 1) (codes "LAST") ≡ Some content
+pub control-there : (files : FileRecords) (order content number : List ℕ) → record_at 4 (files 1) (codes "LAST") ≡ Some content
     → has_key 4 (upd files 2 (with_record 4 (files 2) order) 1) (take 4 (control_with content number)) ≡ false → ⊥
 control-there files order content number is none =
     true≢false
@@ -150,12 +159,25 @@ control-there files order content number is none =
     ∙ ap (λ xs. has_key 4 xs (take 4 (control_with content number))) (sym (upd-other files 2 (with_record 4 (files 2) order) 1 (differ 1 2 (λ e. absurd cc))))
     ∙ none)
 
+-- the key of a record of STOCK stays
+pub stock-key : (files : FileRecords) (message content stock more : List ℕ) → record_at 4 (files 0) (message_item message) ≡ Some content
+    → take 4 (stock_with content stock more) ≡ message_item message
+stock-key files message content stock more is =
+    take-first 4 (fitted 4 (fitted 20 content)) _ (length-fitted 4 (fitted 20 content))
+    ∙ key-fitted 4 20 content (message_item message) (omega arith) (length-fitted 4 (fitted 8 message)) (record_at-found 4 (files 0) (message_item message) content is).1
+
+-- so STOCK has its record when it is rewritten
+pub stock-there : (files : FileRecords) (message content stock more : List ℕ) → record_at 4 (files 0) (message_item message) ≡ Some content
+    → has_key 4 (files 0) (take 4 (stock_with content stock more)) ≡ false → ⊥
+stock-there files message content stock more is none =
+    true≢false (sym (ap is_some is) ∙ ap (has_key 4 (files 0)) (sym (stock-key files message content stock more is)) ∙ none)
+
 -- ---- the servers
 
-stock-sized : HaveSizes stock_sizes (texts_in (initial_store stock_program))
+pub stock-sized : HaveSizes stock_sizes (texts_in (initial_store stock_program))
 stock-sized = (refl, (refl, (refl, (refl, (refl, (refl, (refl, (refl, tt))))))))
 
-order-sized : HaveSizes order_sizes (texts_in (initial_store order_program))
+pub order-sized : HaveSizes order_sizes (texts_in (initial_store order_program))
 order-sized = (refl, (refl, (refl, (refl, (refl, (refl, tt))))))
 
 module _ (choices : OrderChoices) where
@@ -168,11 +190,14 @@ module _ (choices : OrderChoices) where
   stock-keeps message reply records left now served =
       let Sized : Program → Type 0 = λ program. HaveSizes stock_sizes (texts_in (initial_store program)) in
       let Met : Program → Type 0 = λ program. ServerMeets (order_deck choices) program stock_sizes message Leaves records in
+      let changed : (stock : List (List ℕ)) → IsNumbered (upd records 0 stock) =
+      λ stock. same-files records (upd records 0 stock) (upd-other records 0 stock 1 (differ 1 0 (λ e. absurd cc))) (upd-other records 0 stock 2 (differ 2 0 (λ e. absurd cc))) now in
       program-replies (order_deck choices) (sample_program true (codes "STOCK-P") [] stock_data stock_text) stock_sizes message Leaves records
       (subst Sized (sym stock-is) stock-sized)
       (subst Met (sym stock-is)
-      (stock-meets choices message Leaves records (λ reply. now)
-      (λ reply stock. same-files records (upd records 0 stock) (upd-other records 0 stock 1 (differ 1 0 (λ e. absurd cc))) (upd-other records 0 stock 2 (differ 2 0 (λ e. absurd cc))) now)))
+      (stock-meets choices message Leaves records (λ reply other_code. now) (stock-there records message)
+      (λ content chars reply found added taken code. changed (with_record 4 (records 0) (stock_with content (fitted 5 chars) (delivered_read content))))
+      (λ content chars more reply found added given delivered code. changed (with_record 4 (records 0) (stock_with content (fitted 5 chars) (fitted 5 more))))))
       reply left served
 
   order-keeps : (message reply : List ℕ) (records left : FileRecords) → IsNumbered records
@@ -183,8 +208,8 @@ module _ (choices : OrderChoices) where
       program-replies (order_deck choices) (sample_program true (codes "ORDER-P") [] order_data order_text) order_sizes message Leaves records
       (subst Sized (sym order-is) order-sized)
       (subst Met (sym order-is)
-      (order-meets choices message Leaves records (λ reply. now) (control-there records)
-      (λ content number reply is kept. numbered-more records now content number message is kept)))
+      (order-meets choices message Leaves records (λ reply other_code. now) (control-there records)
+      (λ content number reply is kept fresh code. numbered-more records now content number message is kept)))
       reply left served
 
   pub orders-keep : (rule : LockRule) → ServersKeep (behaviour rule (order_deck choices)) IsNumbered

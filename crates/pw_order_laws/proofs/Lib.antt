@@ -1,6 +1,11 @@
 pub mod Trees
+pub mod ClerkTrees
 pub mod Read
 pub mod Numbers
 pub mod Stock
 pub mod Order
 pub mod Keeps
+pub mod Supply
+pub mod Requests
+pub mod Clerk
+pub mod Units

@@ -16,7 +16,7 @@ use Rattle.pw_picture.specs.declared.picture.Picture.{Picture}
 use Rattle.pw_picture.specs.declared.picture.Picture.TheVariants.{Number as NumberPicture}
 use Rattle.pw_picture.specs.Stored.{digits_of, is_kept, is_negative, moved, read_of, size_at, value_of}
 use Rattle.pw_picture.specs.Text.{fitted}
-use Rattle.pw_program_steps.proofs.Parts.{fitted-whole, length-digits, take-first}
+use Rattle.pw_program_steps.proofs.Parts.{fitted-whole, key-fitted, length-digits, take-first}
 use Rattle.pw_program_steps.proofs.Texts.{length-fitted}
 use Rattle.pw_program_steps.specs.Meets.{kept_by, received}
 
@@ -111,15 +111,5 @@ read-number content = by-parts (fitted 8 content) (length-fitted 8 content)
 -- the key of the record stays
 pub control-key : (records : List (List ℕ)) (key content number : List ℕ) → length key ≡ 4 → record_at 4 records key ≡ Some content → take 4 (control_with content number) ≡ key
 control-key records key content number long is =
-    let own : take 4 content ≡ key = (record_at-found 4 records key content is).1 in
-    take-first 4 (fitted 4 (fitted 8 content)) (fitted 4 number) (length-fitted 4 (fitted 8 content)) ∙ by-content content (ap length own ∙ long) ∙ own
-  where
-    by-content : (xs : List ℕ) → length (take 4 xs) ≡ 4 → fitted 4 (fitted 8 xs) ≡ take 4 xs
-    by-content [] e = absurd (omega (arith, e))
-    by-content (a ∷ []) e = absurd (omega (arith, e))
-    by-content (a ∷ b ∷ []) e = absurd (omega (arith, e))
-    by-content (a ∷ b ∷ c ∷ []) e = absurd (omega (arith, e))
-    by-content (a ∷ b ∷ c ∷ d ∷ rest) e =
-        let whole : length (fitted 8 (a ∷ b ∷ c ∷ d ∷ rest)) ≡ 8 = length-fitted 8 (a ∷ b ∷ c ∷ d ∷ rest) in
-        let none : 4 - length (fitted 8 (a ∷ b ∷ c ∷ d ∷ rest)) ≡ 0 = omega (arith, whole) in
-        ap (λ m. (a ∷ b ∷ c ∷ d ∷ []) ++ replicate m 32) none
+    take-first 4 (fitted 4 (fitted 8 content)) (fitted 4 number) (length-fitted 4 (fitted 8 content))
+    ∙ key-fitted 4 8 content key (omega arith) long (record_at-found 4 records key content is).1

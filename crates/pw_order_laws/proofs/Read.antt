@@ -1,5 +1,5 @@
--- The texts of the order entry's servers are read as these programs.
-use Rattle.std.proofs.Common.{◌≡◌, true, [], refl}
+-- The texts of the order entry's programs are read as these trees.
+use Rattle.std.proofs.Common.{◌≡◌, false, true, [], refl}
 use Rattle.std.specs.Prelude.{codes}
 use denote.Hole.Carrier.{hidden}
 use Rattle.pw_forms.specs.declared.statement.Statement.TheBlock.{hidden-the_row-Statement-0}
@@ -17,7 +17,9 @@ use Rattle.pw_forms.specs.Forms.{at_most, move_form, giving, on_size_error, arit
 use Rattle.pw_forms.specs.Pieces.{cut, placed, placed_all}
 use Rattle.pw_forms.specs.Faults.{faults_from}
 use Rattle.pw_forms.specs.Tree.{levels}
+use Rattle.pw_order_laws.proofs.ClerkTrees.{clerk_program}
 use Rattle.pw_order_laws.proofs.Trees.{order_program, stock_program}
+use Rattle.pw_order_laws.specs.Clerk.{clerk_data, clerk_text}
 use Rattle.pw_order_laws.specs.Servers.{order_data, order_text, stock_data, stock_text}
 use Rattle.pw_tree_meaning.specs.Samples.{sample_program}
 
@@ -28,3 +30,7 @@ stock-is = refl
 pub order-is : sample_program true (codes "ORDER-P") [] order_data order_text ≡ order_program
 unfolding hidden hidden-the_row-Statement-0 quoted number_or_mark line_item without_period item_at items_from table_place sees sees_third form_rest_behind past past_kind token expects sees_kind is_done ends left some_from up_to_from separated_from subscript_behind item figurative operand name file_name program_name key_of key code word_operator operator compared comparison all condition with_lock receive read_file read_next sees_next read reply write_file write rewrite delete file_form at_most move_form giving on_size_error arithmetic if_form perform_until perform_times perform_one perform_one_of perform exit stop display_base display_any display accept using call code_clause send transaction_form form cut placed placed_all faults_from levels is_table_word entry_size parts_from forest clauses_from
 order-is = refl
+
+pub clerk-is : sample_program false (codes "ORDERS") [] clerk_data clerk_text ≡ clerk_program []
+unfolding hidden hidden-the_row-Statement-0 quoted number_or_mark line_item without_period item_at items_from table_place sees sees_third form_rest_behind past past_kind token expects sees_kind is_done ends left some_from up_to_from separated_from subscript_behind item figurative operand name file_name program_name key_of key code word_operator operator compared comparison all condition with_lock receive read_file read_next sees_next read reply write_file write rewrite delete file_form at_most move_form giving on_size_error arithmetic if_form perform_until perform_times perform_one perform_one_of perform exit stop display_base display_any display accept using call code_clause send transaction_form form cut placed placed_all faults_from levels is_table_word entry_size parts_from forest clauses_from
+clerk-is = refl

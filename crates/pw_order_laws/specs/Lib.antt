@@ -1,2 +1,4 @@
+pub mod Clerk
 pub mod Numbered
 pub mod Servers
+pub mod Stock

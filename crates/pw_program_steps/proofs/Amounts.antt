@@ -2,9 +2,10 @@
 use Rattle.std.proofs.Common.{◌≡◌, ℕ, zero, suc, ◌+◌, ◌*◌, ◌%◌, ◌^◌, ◌<◌, ◌≤◌, Bool, true, false, not, ◌&&◌, ◌||◌, List, [], ◌∷◌, length, drop, if◌then◌else◌, nat_lt, Some, None, Ok, Err, ℤ, pos, negsuc, neg_ℤ, ◌*ℤ◌, unsigned_abs, refl, sym, ap, ◌∙◌, subst, arith, IsTrue}
 use Rattle.std.specs.Prelude.{int_lt}
 use Rattle.std.specs.Ordering.{int_cmp, is_gt}
+use Rattle.std.specs.declared.cmp.Ordering.TheVariants.{Less, Equal, Greater}
 use Rattle.std.proofs.Math.Nat.{mul-le-mul_right, pow-succ'}
 use Rattle.std.proofs.lemmas.Bool.Decides.{nat_tests}
-use Rattle.std.proofs.lemmas.Bool.{lt-ltb}
+use Rattle.std.proofs.lemmas.Bool.{lt-ltb, true≢false}
 use Rattle.std.proofs.lemmas.Int.{ints}
 use Rattle.pw_number.specs.Arithmetic.{sized}
 use Rattle.pw_number.specs.Number.{Number, is_short, number}
@@ -133,7 +134,14 @@ times-one z = omega (arith, ints)
 -- a number that is not above zero is none
 pub not-above : (m : ℕ) → is_gt (int_cmp (pos m) (pos 0)) ≡ false → m ≡ 0
 not-above zero e = refl
-not-above (suc m) e = absurd cc
+not-above (suc m) e =
+    let above : int_lt (pos 0) (pos (suc m)) ≡ true = grind (arith, nat_tests) in
+    absurd (true≢false (sym (by (int_lt (pos (suc m)) (pos 0)) (int_lt (pos 0) (pos (suc m))) (not-below (suc m)) above) ∙ e))
+  where
+    by : (a b : Bool) → a ≡ false → b ≡ true → is_gt (if a then Less else (if b then Greater else Equal)) ≡ true
+    by true b e f = absurd cc
+    by false true e f = refl
+    by false false e f = absurd cc
 
 -- an amount that is not above zero is one below zero, and none where it has no `-`
 pub taken-units : (minus : Bool) (m : ℕ) → is_gt (int_cmp (signed minus m) (pos 0)) ≡ false → signed minus m ≡ neg_ℤ (pos (if minus then m else 0))

@@ -1,7 +1,8 @@
 -- Parts of texts, and digits, for laws over given programs.
-use Rattle.std.proofs.Common.{◌≡◌, ℕ, zero, suc, ◌-◌, ◌≤◌, Bool, true, List, [], ◌∷◌, ◌++◌, length, take, drop, replicate, refl, sym, ap, ◌∙◌, subst, arith}
+use Rattle.std.proofs.Common.{◌≡◌, ℕ, zero, suc, ◌-◌, ◌≤◌, Bool, true, false, List, [], ◌∷◌, ◌++◌, length, take, drop, replicate, if◌then◌else◌, refl, sym, ap, ◌∙◌, subst, arith}
 use Rattle.std.specs.Prelude.{bytes_eq}
 use Rattle.std.specs.Ordering.{is_eq}
+use Rattle.std.proofs.lemmas.Bool.{false≢true}
 use Rattle.std.proofs.lemmas.Cmp.{nat_list_cmp_total, tied_itself}
 use Rattle.std.proofs.lemmas.List.{append-nil, drop-append-le, length-take, take-append-le, take-take, take_all}
 use Rattle.std.proofs.lemmas.Map.Lookups.{exact_bytes}
@@ -55,3 +56,8 @@ bytes-same xs ys e = exact_bytes xs ys (is_eq-Equal (key_cmp xs ys) (is_eq-slice
 
 pub bytes-self : (xs : List ℕ) → bytes_eq xs xs ≡ true
 bytes-self xs = sym (is_eq-slice_cmp xs xs) ∙ ap is_eq (tied_itself nat_list_cmp_total xs)
+
+-- a record that may be written is not there yet
+pub not-there : (b : Bool) → (if b then false else true) ≡ true → b ≡ false
+not-there true e = absurd (false≢true e)
+not-there false e = refl

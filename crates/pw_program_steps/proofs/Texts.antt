@@ -1,5 +1,5 @@
 -- What is read of a store and put into it, by the sizes of its items.
-use Rattle.std.proofs.Common.{◌≡◌, ℕ, ◌+◌, ◌-◌, ◌≤◌, Bool, true, false, List, [], ◌∷◌, ◌++◌, length, map, take, drop, if◌then◌else◌, refl, sym, ap, ◌∙◌, subst, arith}
+use Rattle.std.proofs.Common.{◌≡◌, ℕ, zero, suc, ◌+◌, ◌-◌, ◌≤◌, Bool, true, false, List, [], ◌∷◌, ◌++◌, length, map, take, drop, if◌then◌else◌, refl, sym, ap, ◌∙◌, subst, arith}
 use Rattle.std.proofs.lemmas.List.{append-nil, length-append, length-take, length-replicate}
 use Rattle.pw_data.specs.Store.{Cell}
 use Rattle.pw_picture.specs.Text.{fitted}
@@ -47,10 +47,10 @@ value_in-texts (Fixed value) sizes store texts is sized = refl
 
 -- ---- writing
 
-put-by : (b : Bool) (cell : Cell) (chars : List ℕ) (one other : Store) (ones others : List (List ℕ)) → texts_in one ≡ ones → texts_in other ≡ others
-    → texts_in (if b then record cell { chars = chars } ∷ one else cell ∷ other) ≡ (if b then chars ∷ ones else cell.chars ∷ others)
-put-by true cell chars one other ones others e1 e2 = ap (λ xs. chars ∷ xs) e1
-put-by false cell chars one other ones others e1 e2 = ap (λ xs. cell.chars ∷ xs) e2
+put-by : (b : Bool) (cell : Cell) (new : List ℕ) (one other : Store) (texts : List ℕ → List (List ℕ)) (less chars : List ℕ) → texts_in one ≡ texts less → texts_in other ≡ texts chars
+    → texts_in (if b then record cell { chars = new } ∷ one else cell ∷ other) ≡ (if b then new else cell.chars) ∷ texts (if b then less else chars)
+put-by true cell new one other texts less chars e1 e2 = ap (λ xs. new ∷ xs) e1
+put-by false cell new one other texts less chars e1 e2 = ap (λ xs. cell.chars ∷ xs) e2
 
 put_from-texts : (spot : Spot) (chars : List ℕ) (place : ℕ) (sizes : List ℕ) (store : Store) → HaveSizes sizes (texts_in store)
     → texts_in (put_from spot chars place store) ≡ dealt_from spot chars place sizes (texts_in store)
@@ -60,7 +60,8 @@ put_from-texts spot chars place (size ∷ sizes) [] sized = absurd sized
 put_from-texts spot chars place (size ∷ sizes) (cell ∷ cells) sized =
     let P : ℕ → Type 0 = λ n. texts_in (put_from spot chars place (cell ∷ cells)) ≡ dealt_from spot chars place (n ∷ sizes) (texts_in (cell ∷ cells)) in
     subst P sized.0
-    (put-by (lies_in spot place) cell _ _ _ _ _
+    (put-by (lies_in spot place) cell (fitted (length cell.chars) chars) (put_from spot (drop (length cell.chars) chars) (place + length cell.chars) cells)
+    (put_from spot chars (place + length cell.chars) cells) (λ c. dealt_from spot c (place + length cell.chars) sizes (texts_in cells)) (drop (length cell.chars) chars) chars
     (put_from-texts spot (drop (length cell.chars) chars) (place + length cell.chars) sizes cells sized.1)
     (put_from-texts spot chars (place + length cell.chars) sizes cells sized.1))
 
@@ -70,10 +71,9 @@ put_at-texts spot chars sizes store texts is sized =
     let P : List (List ℕ) → Type 0 = HaveSizes sizes in
     put_from-texts spot chars 0 sizes store (subst P (sym is) sized) ∙ ap (with_text spot chars sizes) is
 
-dealt-by : (b : Bool) (size : ℕ) (sizes chars text : List ℕ) (ones others : List (List ℕ)) → length text ≡ size → HaveSizes sizes ones → HaveSizes sizes others
-    → HaveSizes (size ∷ sizes) (if b then fitted size chars ∷ ones else text ∷ others)
-dealt-by true size sizes chars text ones others own e1 e2 = (length-fitted size chars, e1)
-dealt-by false size sizes chars text ones others own e1 e2 = (own, e2)
+dealt-by : (b : Bool) (size : ℕ) (chars text : List ℕ) → length text ≡ size → length (if b then fitted size chars else text) ≡ size
+dealt-by true size chars text own = length-fitted size chars
+dealt-by false size chars text own = own
 
 -- the sizes stay
 pub dealt-sized : (spot : Spot) (chars : List ℕ) (place : ℕ) (sizes : List ℕ) (texts : List (List ℕ)) → HaveSizes sizes texts
@@ -81,10 +81,10 @@ pub dealt-sized : (spot : Spot) (chars : List ℕ) (place : ℕ) (sizes : List �
 dealt-sized spot chars place [] [] sized = sized
 dealt-sized spot chars place [] (text ∷ texts) sized = absurd sized
 dealt-sized spot chars place (size ∷ sizes) [] sized = absurd sized
-dealt-sized spot chars place (size ∷ sizes) (text ∷ texts) sized =
-    dealt-by (lies_in spot place) size sizes chars text _ _ sized.0
-    (dealt-sized spot (drop size chars) (place + size) sizes texts sized.1)
-    (dealt-sized spot chars (place + size) sizes texts sized.1)
+dealt-sized spot chars place (size ∷ sizes) (text ∷ texts) sized = (
+  dealt-by (lies_in spot place) size chars text sized.0,
+  dealt-sized spot (if lies_in spot place then drop size chars else chars) (place + size) sizes texts sized.1,
+)
 
 -- ---- moves
 
@@ -109,7 +109,12 @@ abbrev pub first_of : List (List ℕ) → List ℕ
 first_of [] = []
 first_of (text ∷ texts) = text
 
--- as many texts as sizes, each by its place
+-- the one at a place
+abbrev pub text_no : ℕ → List (List ℕ) → List ℕ
+text_no zero texts = first_of texts
+text_no (suc n) texts = text_no n (drop 1 texts)
+
+-- as many texts as sizes
 abbrev pub parted : List ℕ → List (List ℕ) → List (List ℕ)
 parted [] texts = []
 parted (size ∷ sizes) texts = first_of texts ∷ parted sizes (drop 1 texts)

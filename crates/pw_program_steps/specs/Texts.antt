@@ -19,8 +19,8 @@ HaveSizes _ _ = ⊥
 -- the texts that lie in a spot, where the first of these sizes begins at a place
 abbrev pub texts_from : Spot → ℕ → List ℕ → List (List ℕ) → List (List ℕ)
 texts_from spot place (size ∷ sizes) (text ∷ texts) =
-    if lies_in spot place then text ∷ texts_from spot (place + size) sizes texts
-    else texts_from spot (place + size) sizes texts
+    let rest = texts_from spot (place + size) sizes texts in
+    if lies_in spot place then text ∷ rest else rest
 texts_from spot place _ _ = []
 
 -- texts, one behind the other
@@ -36,8 +36,8 @@ text_at spot sizes texts = one_text (texts_from spot 0 sizes texts)
 -- the texts with characters dealt out over those in a spot: each takes as many as its size
 abbrev pub dealt_from : Spot → List ℕ → ℕ → List ℕ → List (List ℕ) → List (List ℕ)
 dealt_from spot chars place (size ∷ sizes) (text ∷ texts) =
-    if lies_in spot place then fitted size chars ∷ dealt_from spot (drop size chars) (place + size) sizes texts
-    else text ∷ dealt_from spot chars (place + size) sizes texts
+    (if lies_in spot place then fitted size chars else text)
+    ∷ dealt_from spot (if lies_in spot place then drop size chars else chars) (place + size) sizes texts
 dealt_from spot chars place _ texts = texts
 
 -- the texts with these characters in an item
