@@ -1,5 +1,5 @@
 -- What ORDERS's statements have to meet, and that they do: the requests of each unit balance.
-use Rattle.std.proofs.Common.{◌≡◌, ℕ, suc, ◌+◌, Bool, true, false, not, ◌||◌, List, [], ◌∷◌, ◌++◌, length, take, drop, Option, Some, None, pos, refl, sym, ap, ◌∙◌, subst}
+use Rattle.std.proofs.Common.{◌≡◌, ℕ, suc, ◌+◌, Bool, true, false, not, List, [], ◌∷◌, ◌++◌, length, take, drop, Some, None, pos, refl, sym, ap, ◌∙◌, subst}
 use Rattle.std.specs.Prelude.{bytes_eq, codes}
 use Rattle.std.specs.Ordering.{int_cmp, is_eq, is_gt}
 use Rattle.std.proofs.lemmas.Bool.{false≢true, true≢false}
@@ -8,7 +8,6 @@ use Rattle.pw_forms.specs.declared.statement.Statement.{Statement}
 use Rattle.pw_forms.specs.declared.statement.Statement.{Row_of-Statement, end_of-Statement, more_of-Statement}
 use Rattle.pw_invariants.specs.Requests.{RepliedRequest}
 use Rattle.pw_number.specs.Arithmetic.{sized}
-use Rattle.pw_number.specs.Order.{order}
 use Rattle.pw_order_laws.proofs.ClerkTrees.{all_checked, all_taken, clerk_program, code as send_code, delivery_done, goods_totalled, line_taken, lines_checked, lines_taken, next_taken, order_answered, order_begun, order_checked, order_settled, order_totalled, pieces_priced, pieces_taken, stock_changed, store_full}
 use Rattle.pw_order_laws.proofs.Requests.{Balance, Taken, asked_of, delivery-balances, order-balances, order_message, pieces, taken-more, taken-none, taken-received, taken-same, taken_from_zero}
 use Rattle.pw_order_laws.proofs.Stock.{three}

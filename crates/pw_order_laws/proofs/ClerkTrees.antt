@@ -14,10 +14,8 @@ use Rattle.pw_forms.specs.declared.lists.SendCode.{SendCode}
 use Rattle.pw_forms.specs.declared.operand.Operand.{Operand}
 use Rattle.pw_forms.specs.declared.operand.Operand.TheVariants as operands
 use Rattle.pw_forms.specs.declared.operand.Subscript.TheVariants as subscripts
-use Rattle.pw_forms.specs.declared.statement.ArithmeticForm as arithmetic
 use Rattle.pw_forms.specs.declared.statement.Operation.{Operation}
 use Rattle.pw_forms.specs.declared.statement.Operation.TheVariants as operation
-use Rattle.pw_forms.specs.declared.statement.Paragraph.{Paragraph}
 use Rattle.pw_forms.specs.declared.statement.Statement.{Statement}
 use Rattle.pw_forms.specs.declared.statement.Statement as form
 use Rattle.pw_forms.specs.declared.statement.Statement.{Row_of-Statement, end_of-Statement, more_of-Statement}

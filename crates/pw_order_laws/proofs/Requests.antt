@@ -9,7 +9,7 @@ use Rattle.pw_number.specs.Arithmetic.{difference, sized}
 use Rattle.pw_number.specs.Number.{Number, number}
 use Rattle.pw_number.specs.Sign.{signed}
 use Rattle.pw_order_laws.proofs.Stock.{three}
-use Rattle.pw_order_laws.specs.Stock.{line_in, lines_in, ordered_by, pieces_of, supplied_by, supply_behind, taken_by}
+use Rattle.pw_order_laws.specs.Stock.{line_in, lines_in, ordered_by, pieces_of, supply_behind, taken_by}
 use Rattle.pw_picture.specs.Stored.{moved, value_of}
 use Rattle.pw_picture.specs.Symbols.{begins_with}
 use Rattle.pw_picture.specs.Text.{fitted}

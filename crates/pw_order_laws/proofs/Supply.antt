@@ -1,5 +1,5 @@
 -- Each server of the order entry that replies does to the supply what its request says.
-use Rattle.std.proofs.Common.{◌≡◌, ℕ, zero, suc, ◌+◌, Bool, true, false, List, [], ◌∷◌, ◌++◌, length, take, drop, if◌then◌else◌, Option, Some, None, is_some, ℤ, pos, neg_ℤ, ◌+ℤ◌, ◌-ℤ◌, ◌*ℤ◌, refl, sym, ap, ◌∙◌, subst, arith}
+use Rattle.std.proofs.Common.{◌≡◌, ℕ, zero, suc, ◌+◌, Bool, true, false, List, [], ◌++◌, length, take, drop, if◌then◌else◌, Option, Some, None, is_some, ℤ, pos, neg_ℤ, ◌+ℤ◌, ◌-ℤ◌, ◌*ℤ◌, refl, sym, ap, ◌∙◌, subst, arith}
 use Rattle.std.specs.Prelude.{bytes_eq, codes}
 use Rattle.std.specs.Ordering.{int_cmp, is_gt}
 use Rattle.std.proofs.lemmas.Int.{ints}
@@ -10,7 +10,6 @@ use Rattle.pw_files.proofs.Lookups.{record_at-found}
 use Rattle.pw_invariants.specs.Requests.{ServersStep}
 use Rattle.pw_invariants.specs.Units.{FileRecords}
 use Rattle.pw_number.specs.Arithmetic.{sum}
-use Rattle.pw_number.specs.Sign.{signed}
 use Rattle.pw_onecopy.proofs.Update.{upd-other, upd-same}
 use Rattle.pw_onecopy.specs.Behaviour.{Reply}
 use Rattle.pw_order_laws.proofs.Keeps.{control-there, differ, order-sized, orders-written, stock-key, stock-sized, stock-stays, stock-there}
@@ -19,7 +18,7 @@ use Rattle.pw_order_laws.proofs.Numbers.{control_with, four}
 use Rattle.pw_order_laws.proofs.Read.{order-is, stock-is}
 use Rattle.pw_order_laws.proofs.Stock.{Added, delivered_read, five, is_delivery, message_change, message_item, stock-meets, stock_read, stock_sizes, stock_with, stocked, three}
 use Rattle.pw_order_laws.specs.Servers.{OrderChoices, order_data, order_deck, order_text, stock_data, stock_text}
-use Rattle.pw_order_laws.specs.Stock.{TakenIsOrdered, delivered_in, line_in, lines_in, ordered_by, ordered_in, pieces_of, stock_in, supplied_by, supply, supply_behind, taken_by}
+use Rattle.pw_order_laws.specs.Stock.{TakenIsOrdered, delivered_in, lines_in, ordered_by, ordered_in, pieces_of, stock_in, supplied_by, supply, supply_behind, taken_by}
 use Rattle.pw_picture.specs.Stored.{moved, read_of, value_of}
 use Rattle.pw_picture.specs.Symbols.{begins_with}
 use Rattle.pw_picture.specs.Text.{fitted}

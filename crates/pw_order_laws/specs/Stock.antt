@@ -1,6 +1,6 @@
 -- Pieces of items: in stock, delivered, in orders, and in requests. items: which ones are asked about, by their numbers of four
 -- characters, as one item alone, or all.
-use Rattle.std.specs.Prelude.{◌≡◌, ℕ, zero, suc, ◌+◌, Bool, ◌&&◌, List, take, drop, codes, bytes_eq, ℤ, pos, neg_ℤ, ◌+ℤ◌, ◌-ℤ◌, if◌then◌else◌}
+use Rattle.std.specs.Prelude.{◌≡◌, ℕ, zero, suc, ◌+◌, Bool, List, take, drop, codes, bytes_eq, ℤ, pos, neg_ℤ, ◌+ℤ◌, ◌-ℤ◌, if◌then◌else◌}
 use Rattle.pw_invariants.specs.Requests.{RepliedRequest}
 use Rattle.pw_invariants.specs.Units.{FileRecords}
 use Rattle.pw_picture.specs.Stored.{value_of}

@@ -1,5 +1,5 @@
 -- Where a server's run by itself ends: what holds of the state in which it goes on, or of its reply and the files then.
-use Rattle.std.proofs.Common.{◌≡◌, ℕ, ◌+◌, Bool, true, false, List, if◌then◌else◌, nat_lt, Option, Some, None, refl, sym, subst}
+use Rattle.std.proofs.Common.{◌≡◌, ℕ, ◌+◌, Bool, true, false, List, if◌then◌else◌, nat_lt, Option, Some, sym, subst}
 use Rattle.pw_code.specs.declared.verb.Verb.{Verb}
 use Rattle.pw_code.specs.declared.verb.Verb.TheVariants as verb
 use Rattle.pw_program_steps.specs.Known.{RecordsByFile}

@@ -1,5 +1,5 @@
 -- Operands and conditions by what is known.
-use Rattle.std.proofs.Common.{◌≡◌, ℕ, Bool, true, false, ◌&&◌, ◌||◌, List, [], ◌∷◌, Option, Some, None, refl, sym, ap, ◌∙◌, subst}
+use Rattle.std.proofs.Common.{◌≡◌, ℕ, Bool, true, false, ◌&&◌, ◌||◌, List, [], ◌∷◌, Option, Some, None, refl, ap, ◌∙◌}
 use Rattle.pw_data.specs.declared.item.Item.{Item}
 use Rattle.pw_forms.specs.declared.cond.ComparisonForm.{ComparisonForm}
 use Rattle.pw_forms.specs.declared.cond.ComparisonForm.TheVariants as comparison
@@ -15,7 +15,7 @@ use Rattle.pw_tree_meaning.specs.Conditions.{any_holds, all_hold, compared, comp
 use Rattle.pw_tree_meaning.specs.Operands.{ResolvedOperand, Fixed, one_more, operand_taken, plain, subscript_value, taken_all, taken_item, value_in}
 use Rattle.pw_tree_meaning.specs.Program.{Program, item_named}
 use Rattle.pw_tree_meaning.specs.State.{ProgramState, Registers}
-use Rattle.pw_tree_meaning.specs.Values.{Number', Spaces', Text', Zeros', number_in, number_of, whole_part}
+use Rattle.pw_tree_meaning.specs.Values.{Number', Spaces', Text', Zeros', number_of, whole_part}
 use Rattle.pw_words.specs.Words.{Word}
 
 taken-plain : (o : Option Item) (registers : Registers) (name : Word) → taken_item o registers name None ≡ Some (plain o registers name)

@@ -1,17 +1,16 @@
 -- What a server's run by itself replies meets what its statements have to meet.
-use Rattle.std.proofs.Common.{◌≡◌, ℕ, zero, suc, List, [], ◌∷◌, refl, sym, subst}
+use Rattle.std.proofs.Common.{◌≡◌, ℕ, zero, suc, List, [], ◌∷◌, refl, subst}
 use Rattle.pw_forms.specs.declared.statement.Paragraph.{Paragraph}
 use Rattle.pw_onecopy.specs.Behaviour.{Reply}
-use Rattle.pw_onecopy.specs.Behaviour as served
 use Rattle.pw_program_steps.proofs.Ends.{AsksWell, EndsWell, then-well}
 use Rattle.pw_program_steps.proofs.Statements.{Follows, alone_setting, body-well}
 use Rattle.pw_program_steps.specs.Known.{IsKnownAt, KnownMoment, RecordsByFile, known_start}
-use Rattle.pw_program_steps.specs.Meets.{BodyMeets, FlowMeets, PerformMeets, ServerMeets}
+use Rattle.pw_program_steps.specs.Meets.{FlowMeets, PerformMeets, ServerMeets}
 use Rattle.pw_program_steps.specs.Texts.{HaveSizes, texts_in}
 use Rattle.pw_code.specs.declared.verb.Verb.{Verb}
 use Rattle.pw_code.specs.declared.verb.Verb.TheVariants as verb
-use Rattle.pw_tree_meaning.specs.Program.{DeckModel, Program, body_named, program_at}
-use Rattle.pw_tree_meaning.specs.Runs.{flow, most_performs, performed, program_ended, program_run, served_alone, served_by, start}
+use Rattle.pw_tree_meaning.specs.Program.{DeckModel, Program, body_named}
+use Rattle.pw_tree_meaning.specs.Runs.{flow, most_performs, performed, program_ended, program_run, served_by, start}
 use Rattle.pw_tree_meaning.specs.State.{ProgramState, Out, Goes, Leaves, Asks, faults}
 use Rattle.pw_tree_meaning.specs.Store.{initial_store}
 use Rattle.pw_words.specs.Words.{Word}

@@ -1,9 +1,9 @@
 -- What statements have to meet is enough, by induction on them.
-use Rattle.std.proofs.Common.{◌≡◌, ℕ, zero, suc, ◌+◌, ◌==◌, ◌&&◌, Bool, true, false, List, [], ◌∷◌, length, map, take, if◌then◌else◌, Option, Some, None, Result, Ok, Err, refl, sym, ap, ◌∙◌, subst}
+use Rattle.std.proofs.Common.{◌≡◌, ℕ, zero, suc, ◌+◌, ◌==◌, Bool, true, false, List, [], ◌∷◌, map, take, if◌then◌else◌, Option, Some, None, Result, Ok, Err, refl, sym, ap, ◌∙◌, subst}
 use Rattle.std.proofs.Math.Path.{fun_ext}
 use Rattle.pw_code.specs.declared.file.FileCall.{FileCall}
 use Rattle.pw_code.specs.declared.file.FileOp.{FileOp}
-use Rattle.pw_code.specs.declared.file.FileOp.TheVariants.{Read, Next, Write, Rewrite, Delete, ReadLock, NextLock}
+use Rattle.pw_code.specs.declared.file.FileOp.TheVariants.{Read, Next, Write, Rewrite, ReadLock, NextLock}
 use Rattle.pw_code.specs.declared.verb.Verb.TheVariants as verb
 use Rattle.pw_files.specs.Records.{has_key, record_after, record_at, with_record, without_key}
 use Rattle.pw_forms.specs.declared.cond.ConditionForm.{ConditionForm}
@@ -20,13 +20,13 @@ use Rattle.pw_onecopy.specs.Path.{FileResult}
 use Rattle.pw_onecopy.specs.Update.{upd}
 use Rattle.pw_picture.specs.declared.picture.Picture.{Picture}
 use Rattle.pw_picture.specs.Stored.{is_kept, moved}
-use Rattle.pw_program_steps.proofs.Ends.{AsksWell, EndsWell, counted-well, taken-well, then-well}
+use Rattle.pw_program_steps.proofs.Ends.{EndsWell, counted-well, taken-well, then-well}
 use Rattle.pw_program_steps.proofs.Operands.{all-taken, any-known, known-taken}
 use Rattle.pw_program_steps.proofs.Texts.{dealt-sized, moves-sized, moves-texts, put_at-texts, value_in-texts}
 use Rattle.pw_program_steps.specs.Known.{IsKnownAt, KnownMoment, RecordsByFile, with_status}
-use Rattle.pw_program_steps.specs.Meets.{AnyMeets, ArithmeticMeets, BodyMeets, BranchesOn, ChangeMeets, FindMeets, LoopMeets, StatementMeets, RowMeets, WithAllKnown, WithKnown, moved_text, received}
-use Rattle.pw_program_steps.specs.Texts.{HaveSizes, said, with_moved, with_moves, with_text}
-use Rattle.pw_tree_meaning.specs.Arithmetic.{arithmetic_on, computed, operated, or_else, receiver_decimals, receiver_of, stored_by, stored_in}
+use Rattle.pw_program_steps.specs.Meets.{ArithmeticMeets, BodyMeets, BranchesOn, ChangeMeets, FindMeets, LoopMeets, StatementMeets, RowMeets, WithAllKnown, WithKnown, moved_text, received}
+use Rattle.pw_program_steps.specs.Texts.{said, with_moves, with_text}
+use Rattle.pw_tree_meaning.specs.Arithmetic.{arithmetic_on, operated, or_else, receiver_decimals, receiver_of, stored_by, stored_in}
 use Rattle.pw_tree_meaning.specs.Conditions.{holds}
 use Rattle.pw_tree_meaning.specs.Files.{call_by_key, delete, file_done, read, read_by, read_next, receive, reply, write_by}
 use Rattle.pw_tree_meaning.specs.Moves.{moved_chars, move_text, moves}

@@ -1,10 +1,10 @@
 -- What is read of a store and put into it, by the sizes of its items.
-use Rattle.std.proofs.Common.{◌≡◌, ℕ, zero, suc, ◌+◌, ◌-◌, ◌≤◌, Bool, true, false, List, [], ◌∷◌, ◌++◌, length, map, take, drop, if◌then◌else◌, refl, sym, ap, ◌∙◌, subst, arith}
+use Rattle.std.proofs.Common.{◌≡◌, ℕ, zero, suc, ◌+◌, Bool, true, false, List, [], ◌∷◌, ◌++◌, length, drop, if◌then◌else◌, refl, sym, ap, ◌∙◌, subst, arith}
 use Rattle.std.proofs.lemmas.List.{append-nil, length-append, length-take, length-replicate}
 use Rattle.pw_data.specs.Store.{Cell}
 use Rattle.pw_picture.specs.Text.{fitted}
 use Rattle.pw_program_steps.specs.Texts.{HaveSizes, dealt_from, one_text, said, text_at, texts_from, texts_in, with_moved, with_moves, with_text}
-use Rattle.pw_tree_meaning.specs.Moves.{moved_chars, moves}
+use Rattle.pw_tree_meaning.specs.Moves.{moves}
 use Rattle.pw_tree_meaning.specs.Operands.{ResolvedOperand, Fixed, Stored, value_in}
 use Rattle.pw_tree_meaning.specs.Store.{Spot, Store, chars_at, chars_from, lies_in, put_at, put_from}
 use Rattle.pw_tree_meaning.specs.Values.{Chars}

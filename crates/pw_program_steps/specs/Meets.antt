@@ -4,7 +4,6 @@ use Rattle.std.specs.Prelude.{◌≡◌, ℕ, zero, suc, Bool, true, false, ◌&
 use Rattle.pw_files.specs.Records.{has_key, record_after, record_at, with_record, without_key}
 use Rattle.pw_forms.specs.declared.cond.ComparisonForm.{ComparisonForm}
 use Rattle.pw_forms.specs.declared.cond.ComparisonForm.TheVariants as comparison
-use Rattle.pw_forms.specs.declared.cond.ConditionForm.{ConditionForm}
 use Rattle.pw_forms.specs.declared.operand.Operand.{Operand}
 use Rattle.pw_forms.specs.declared.operand.Operand.TheVariants as operands
 use Rattle.pw_forms.specs.declared.operand.Subscript.{Subscript}
@@ -28,7 +27,7 @@ use Rattle.pw_tree_meaning.specs.Program.{DeckModel, Program, body_named, file_n
 use Rattle.pw_tree_meaning.specs.Runs.{most_performs}
 use Rattle.pw_tree_meaning.specs.State.{Registers}
 use Rattle.pw_tree_meaning.specs.Store.{Spot}
-use Rattle.pw_tree_meaning.specs.Values.{Value, Number', Spaces', Text', Zeros', as_it_stands, number_in, number_of, whole_part}
+use Rattle.pw_tree_meaning.specs.Values.{Number', Spaces', Text', Zeros', as_it_stands, number_in, number_of, whole_part}
 use Rattle.pw_words.specs.Words.{Word}
 
 -- ---- operands
