@@ -15,9 +15,9 @@ use Rattle.pw_onecopy.specs.Update.{upd}
 use Rattle.pw_picture.specs.declared.picture.Picture.TheVariants.{Text as TextPicture}
 use Rattle.pw_picture.specs.Stored.{moved, read_of}
 use Rattle.pw_picture.specs.Text.{fitted}
-use Rattle.pw_program_steps.proofs.Parts.{not-there}
-use Rattle.pw_program_steps.specs.Known.{KnownMoment}
-use Rattle.pw_program_steps.specs.Meets.{BodyMeets, FlowMeets, PerformMeets, ServerMeets, received}
+use Rattle.pw_program_laws.proofs.Parts.{not-there}
+use Rattle.pw_program_laws.specs.Known.{KnownMoment}
+use Rattle.pw_program_laws.specs.Meets.{BodyMeets, FlowMeets, PerformMeets, ServerMeets, received}
 use Rattle.pw_tree_meaning.specs.Conditions.{compared}
 use Rattle.pw_tree_meaning.specs.Runs.{most_performs}
 use Rattle.pw_tree_meaning.specs.State.{no_registers}

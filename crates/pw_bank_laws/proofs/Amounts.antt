@@ -11,9 +11,9 @@ use Rattle.pw_number.specs.Arithmetic.{difference, sized}
 use Rattle.pw_number.specs.Number.{Number, number}
 use Rattle.pw_picture.specs.Stored.{moved, value_of}
 use Rattle.pw_picture.specs.Text.{fitted}
-use Rattle.pw_program_steps.proofs.Amounts.{amount-long, amount-received, amount-units, units_in, value-below}
-use Rattle.pw_program_steps.proofs.Parts.{drop-first, fitted-whole}
-use Rattle.pw_program_steps.specs.Meets.{received}
+use Rattle.pw_program_laws.proofs.Amounts.{amount-long, amount-received, amount-units, units_in, value-below}
+use Rattle.pw_program_laws.proofs.Parts.{drop-first, fitted-whole}
+use Rattle.pw_program_laws.specs.Meets.{received}
 
 -- seven digits are below ten millions
 pub seven-digits : (chars : List ℕ) → length chars ≡ 7 → value_of 0 chars < 10 ^ 7

@@ -21,9 +21,9 @@ use Rattle.pw_onecopy.specs.Update.{upd}
 use Rattle.pw_picture.specs.Stored.{digits_of, is_kept, moved, read_of}
 use Rattle.pw_picture.specs.Text.{fitted}
 use Rattle.pw_picture.specs.declared.picture.Picture.TheVariants.{Number as NumberPicture}
-use Rattle.pw_program_steps.proofs.Parts.{drop-first, fitted-whole, length-digits}
-use Rattle.pw_program_steps.proofs.Texts.{length-fitted}
-use Rattle.pw_program_steps.specs.Meets.{received}
+use Rattle.pw_program_laws.proofs.Parts.{drop-first, fitted-whole, length-digits}
+use Rattle.pw_program_laws.proofs.Texts.{length-fitted}
+use Rattle.pw_program_laws.specs.Meets.{received}
 
 digit-written : (digit : ℕ) → is_ascii_digit (48 + digit % 10) ≡ true
 digit-written digit = let small : digit % 10 ≤ 9 = omega arith in digit-small (digit % 10) small

@@ -5,8 +5,8 @@ use Rattle.pw_number.specs.Arithmetic.{sized, sum}
 use Rattle.pw_picture.specs.declared.picture.Picture.{Picture}
 use Rattle.pw_picture.specs.declared.picture.Picture.TheVariants.{Number as NumberPicture}
 use Rattle.pw_picture.specs.Stored.{read_of, value_of}
-use Rattle.pw_program_steps.proofs.Amounts.{stored-value, times-one, units_in}
-use Rattle.pw_program_steps.specs.Meets.{received}
+use Rattle.pw_program_laws.proofs.Amounts.{stored-value, times-one, units_in}
+use Rattle.pw_program_laws.specs.Meets.{received}
 
 -- nine digits with two places, and seven of an amount with a sign
 abbrev pub nine : Picture

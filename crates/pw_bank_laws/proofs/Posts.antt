@@ -17,11 +17,11 @@ use Rattle.pw_onecopy.specs.Update.{upd}
 use Rattle.pw_picture.specs.Stored.{read_of, value_of}
 use Rattle.pw_picture.specs.Symbols.{begins_with}
 use Rattle.pw_picture.specs.Text.{fitted}
-use Rattle.pw_program_steps.proofs.Parts.{drop-first, fitted-whole, fitted-within, take-first}
-use Rattle.pw_program_steps.proofs.Texts.{length-fitted}
-use Rattle.pw_program_steps.proofs.Totals.{total-with_record}
-use Rattle.pw_program_steps.specs.Meets.{received}
-use Rattle.pw_program_steps.specs.Totals.{counted_of, total_of}
+use Rattle.pw_program_laws.proofs.Parts.{drop-first, fitted-whole, fitted-within, take-first}
+use Rattle.pw_program_laws.proofs.Texts.{length-fitted}
+use Rattle.pw_program_laws.proofs.Totals.{total-with_record}
+use Rattle.pw_program_laws.specs.Meets.{received}
+use Rattle.pw_program_laws.specs.Totals.{counted_of, total_of}
 
 -- ---- the message
 

@@ -22,9 +22,9 @@ use Rattle.pw_invariants.specs.Requests.{ServersStep}
 use Rattle.pw_invariants.specs.Servers.{ServersKeep}
 use Rattle.pw_invariants.specs.Units.{FileRecords}
 use Rattle.pw_onecopy.specs.Behaviour.{Reply}
-use Rattle.pw_program_steps.proofs.Servers.{program-replies}
-use Rattle.pw_program_steps.specs.Meets.{ServerMeets}
-use Rattle.pw_program_steps.specs.Texts.{HaveSizes, texts_in}
+use Rattle.pw_program_laws.proofs.Servers.{program-replies}
+use Rattle.pw_program_laws.specs.Meets.{ServerMeets}
+use Rattle.pw_program_laws.specs.Texts.{HaveSizes, texts_in}
 use Rattle.pw_tree_meaning.specs.OfDeck.{behaviour}
 use Rattle.pw_tree_meaning.specs.Program.{Program}
 use Rattle.pw_tree_meaning.specs.Runs.{served_alone}

@@ -6,7 +6,7 @@ use Rattle.std.proofs.lemmas.Bool.{false≢true, true≢false}
 use Rattle.pw_bank_laws.proofs.Amounts.{Balance, Posted, amount_of, asked_of, credit-first, credit-value, debit-first, debit-received, debit-value, debit_of, posting-posts, posting_of}
 use Rattle.pw_bank_laws.proofs.Numbers.{seven}
 use Rattle.pw_bank_laws.proofs.Tellers.{code, money_moved, money_settled, next_shown, next_taken, post_answered, teller_program}
-use Rattle.pw_program_steps.proofs.Trees.{move, own}
+use Rattle.pw_program_laws.proofs.Trees.{move, own}
 use Rattle.pw_bank_laws.specs.Servers.{BankChoices}
 use Rattle.pw_bank_laws.specs.Teller.{teller_bank}
 use Rattle.pw_code.specs.declared.field.ScreenTable.{ScreenTable}
@@ -18,11 +18,11 @@ use Rattle.pw_number.specs.Arithmetic.{sized}
 use Rattle.pw_picture.specs.Stored.{moved, value_of}
 use Rattle.pw_picture.specs.Text.{fitted}
 use Rattle.pw_picture.specs.declared.picture.Picture.TheVariants.{Text as TextPicture}
-use Rattle.pw_program_steps.proofs.Texts.{length-fitted, parted, text_no, texts-parted}
-use Rattle.pw_program_steps.specs.Meets.{received}
-use Rattle.pw_program_steps.specs.Texts.{HaveSizes, with_moved}
-use Rattle.pw_request_laws.proofs.Codes.{reply-cases}
-use Rattle.pw_request_laws.specs.Requests.{BranchMeets, ParagraphMeets, ProgramMeets, RequesterMoment, TurnMeets}
+use Rattle.pw_program_laws.proofs.Texts.{length-fitted, parted, text_no, texts-parted}
+use Rattle.pw_program_laws.specs.Meets.{received}
+use Rattle.pw_program_laws.specs.Texts.{HaveSizes, with_moved}
+use Rattle.pw_program_laws.proofs.requests.Codes.{reply-cases}
+use Rattle.pw_program_laws.specs.Requests.{BranchMeets, ParagraphMeets, ProgramMeets, RequesterMoment, TurnMeets}
 use Rattle.pw_tree_meaning.specs.Conditions.{compared}
 use Rattle.pw_tree_meaning.specs.State.{Registers}
 use Rattle.pw_tree_meaning.specs.Store.{Spot}

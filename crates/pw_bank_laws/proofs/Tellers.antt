@@ -1,7 +1,7 @@
 -- TELLER as it is read.
 use Rattle.std.proofs.Common.{ℕ, true, false, List, [], ◌∷◌, Some}
 use Rattle.std.specs.Prelude.{codes}
-use Rattle.pw_program_steps.proofs.Trees.{compare, elementary, group, move, own, paragraph}
+use Rattle.pw_program_laws.proofs.Trees.{compare, elementary, group, move, own, paragraph}
 use Rattle.pw_code.specs.declared.field.ScreenTable.{ScreenTable}
 use Rattle.pw_data.specs.declared.item.Item.{Item}
 use Rattle.pw_data.specs.declared.item.ItemKind.TheVariants as kind

@@ -24,11 +24,11 @@ use Rattle.pw_onecopy.specs.Update.{upd}
 use Rattle.pw_picture.specs.Stored.{moved, read_of, value_of}
 use Rattle.pw_picture.specs.Symbols.{begins_with}
 use Rattle.pw_picture.specs.Text.{fitted}
-use Rattle.pw_program_steps.proofs.Amounts.{units_in}
-use Rattle.pw_program_steps.proofs.Parts.{bytes-same, bytes-self, drop-first, fitted-whole, take-first}
-use Rattle.pw_program_steps.proofs.Texts.{length-fitted}
-use Rattle.pw_program_steps.specs.Meets.{received}
-use Rattle.pw_program_steps.specs.Totals.{counted_of}
+use Rattle.pw_program_laws.proofs.Amounts.{units_in}
+use Rattle.pw_program_laws.proofs.Parts.{bytes-same, bytes-self, drop-first, fitted-whole, take-first}
+use Rattle.pw_program_laws.proofs.Texts.{length-fitted}
+use Rattle.pw_program_laws.specs.Meets.{received}
+use Rattle.pw_program_laws.specs.Totals.{counted_of}
 
 -- ---- sums over lines
 

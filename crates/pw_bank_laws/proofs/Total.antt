@@ -3,7 +3,7 @@ use Rattle.std.proofs.Common.{ℕ, List, [], ◌∷◌, refl}
 use Rattle.pw_bank_laws.proofs.Trees.{total_program}
 use Rattle.pw_bank_laws.specs.Servers.{BankChoices, whole_bank}
 use Rattle.pw_invariants.specs.Units.{FileRecords}
-use Rattle.pw_program_steps.specs.Meets.{ServerMeets}
+use Rattle.pw_program_laws.specs.Meets.{ServerMeets}
 
 -- the sizes of the items of TOTAL-P
 abbrev pub total_sizes : List ℕ

@@ -14,9 +14,9 @@ use Rattle.pw_forms.specs.Procedures.{procedure_of}
 use Rattle.pw_forms.specs.declared.statement.Paragraph.{Paragraph}
 use Rattle.pw_invariants.specs.Requests.{UnitsBalance}
 use Rattle.pw_onecopy.specs.IsBehaviour.{IsBehaviour}
-use Rattle.pw_program_steps.specs.Texts.{HaveSizes, texts_in}
-use Rattle.pw_request_laws.proofs.Units.{deck-requests}
-use Rattle.pw_request_laws.specs.Requests.{ProgramMeets}
+use Rattle.pw_program_laws.specs.Texts.{HaveSizes, texts_in}
+use Rattle.pw_program_laws.proofs.requests.Units.{deck-requests}
+use Rattle.pw_program_laws.specs.Requests.{ProgramMeets}
 use Rattle.pw_tree_meaning.specs.OfDeck.{behaviour}
 use Rattle.pw_tree_meaning.specs.Program.{DeckModel, Program, program_at}
 use Rattle.pw_tree_meaning.specs.Samples.{paragraphs_by, tokens_of_text}

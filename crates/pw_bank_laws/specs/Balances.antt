@@ -6,7 +6,7 @@ use Rattle.pw_number.specs.Sign.{signed}
 use Rattle.pw_picture.specs.Stored.{value_of}
 use Rattle.pw_picture.specs.Symbols.{begins_with}
 use Rattle.pw_picture.specs.Text.{fitted}
-use Rattle.pw_program_steps.specs.Totals.{total_of}
+use Rattle.pw_program_laws.specs.Totals.{total_of}
 
 -- the balance in a record of ACCOUNTS, in cents: nine digits behind the number and the owner of the account
 abbrev pub balance_in : List ℕ → ℕ

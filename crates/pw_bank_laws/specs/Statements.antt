@@ -6,7 +6,7 @@ use Rattle.pw_invariants.specs.Units.{FileRecords}
 use Rattle.pw_number.specs.Sign.{signed}
 use Rattle.pw_picture.specs.Stored.{value_of}
 use Rattle.pw_picture.specs.Symbols.{begins_with}
-use Rattle.pw_program_steps.specs.Totals.{counted_of}
+use Rattle.pw_program_laws.specs.Totals.{counted_of}
 
 -- the balance of an account, and 0 where there is none
 abbrev pub balance_of : List ℕ → FileRecords → ℤ

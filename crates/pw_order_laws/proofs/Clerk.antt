@@ -15,12 +15,12 @@ use Rattle.pw_order_laws.specs.Stock.{pieces_of}
 use Rattle.pw_picture.specs.Stored.{moved, value_of}
 use Rattle.pw_picture.specs.Text.{fitted}
 use Rattle.pw_picture.specs.declared.picture.Picture.TheVariants.{Number as NumberPicture, Text as TextPicture}
-use Rattle.pw_program_steps.proofs.Amounts.{not-above, times-one}
-use Rattle.pw_program_steps.proofs.Texts.{length-fitted, parted, text_no, texts-parted}
-use Rattle.pw_program_steps.specs.Meets.{received}
-use Rattle.pw_program_steps.specs.Texts.{HaveSizes, with_moved}
-use Rattle.pw_request_laws.proofs.Codes.{reply-cases}
-use Rattle.pw_request_laws.specs.Requests.{AloneMeets, BranchMeets, ParagraphMeets, ProgramMeets, RequesterMoment, TurnMeets, TurnsMeet, sent_behind}
+use Rattle.pw_program_laws.proofs.Amounts.{not-above, times-one}
+use Rattle.pw_program_laws.proofs.Texts.{length-fitted, parted, text_no, texts-parted}
+use Rattle.pw_program_laws.specs.Meets.{received}
+use Rattle.pw_program_laws.specs.Texts.{HaveSizes, with_moved}
+use Rattle.pw_program_laws.proofs.requests.Codes.{reply-cases}
+use Rattle.pw_program_laws.specs.Requests.{AloneMeets, BranchMeets, ParagraphMeets, ProgramMeets, RequesterMoment, TurnMeets, TurnsMeet, sent_behind}
 use Rattle.pw_tree_meaning.specs.Conditions.{compared}
 use Rattle.pw_tree_meaning.specs.Program.{DeckModel}
 use Rattle.pw_tree_meaning.specs.State.{Registers}

@@ -20,12 +20,12 @@ use Rattle.pw_order_laws.specs.Numbered.{IsNumbered, last_number, number_in_cont
 use Rattle.pw_order_laws.specs.Servers.{OrderChoices, order_data, order_deck, order_text, stock_data, stock_text}
 use Rattle.pw_picture.specs.Stored.{digits_of, moved, read_of, value_of}
 use Rattle.pw_picture.specs.Text.{fitted}
-use Rattle.pw_program_steps.proofs.Parts.{bytes-same, bytes-self, key-fitted, take-first}
-use Rattle.pw_program_steps.proofs.Servers.{program-replies}
-use Rattle.pw_program_steps.proofs.Texts.{length-fitted}
-use Rattle.pw_program_steps.specs.Meets.{ServerMeets, received}
-use Rattle.pw_program_steps.specs.Texts.{HaveSizes, texts_in}
-use Rattle.pw_program_steps.specs.Totals.{counted_of}
+use Rattle.pw_program_laws.proofs.Parts.{bytes-same, bytes-self, key-fitted, take-first}
+use Rattle.pw_program_laws.proofs.Servers.{program-replies}
+use Rattle.pw_program_laws.proofs.Texts.{length-fitted}
+use Rattle.pw_program_laws.specs.Meets.{ServerMeets, received}
+use Rattle.pw_program_laws.specs.Texts.{HaveSizes, texts_in}
+use Rattle.pw_program_laws.specs.Totals.{counted_of}
 use Rattle.pw_tree_meaning.specs.OfDeck.{behaviour}
 use Rattle.pw_tree_meaning.specs.Program.{Program}
 use Rattle.pw_tree_meaning.specs.Runs.{served_alone}

@@ -16,9 +16,9 @@ use Rattle.pw_picture.specs.declared.picture.Picture.{Picture}
 use Rattle.pw_picture.specs.declared.picture.Picture.TheVariants.{Number as NumberPicture}
 use Rattle.pw_picture.specs.Stored.{digits_of, is_kept, is_negative, moved, read_of, size_at, value_of}
 use Rattle.pw_picture.specs.Text.{fitted}
-use Rattle.pw_program_steps.proofs.Parts.{fitted-whole, key-fitted, length-digits, take-first}
-use Rattle.pw_program_steps.proofs.Texts.{length-fitted}
-use Rattle.pw_program_steps.specs.Meets.{kept_by, received}
+use Rattle.pw_program_laws.proofs.Parts.{fitted-whole, key-fitted, length-digits, take-first}
+use Rattle.pw_program_laws.proofs.Texts.{length-fitted}
+use Rattle.pw_program_laws.specs.Meets.{kept_by, received}
 
 -- four digits
 abbrev pub four : Picture

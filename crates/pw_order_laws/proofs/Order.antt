@@ -11,8 +11,8 @@ use Rattle.pw_order_laws.proofs.Trees.{order_program}
 use Rattle.pw_order_laws.specs.Servers.{OrderChoices, order_deck}
 use Rattle.pw_picture.specs.Stored.{moved, read_of}
 use Rattle.pw_picture.specs.Text.{fitted}
-use Rattle.pw_program_steps.proofs.Parts.{not-there}
-use Rattle.pw_program_steps.specs.Meets.{ServerMeets, received}
+use Rattle.pw_program_laws.proofs.Parts.{not-there}
+use Rattle.pw_program_laws.specs.Meets.{ServerMeets, received}
 
 -- the sizes of the items of ORDER-P
 abbrev pub order_sizes : List ℕ

@@ -13,9 +13,9 @@ use Rattle.pw_order_laws.specs.Stock.{line_in, lines_in, ordered_by, pieces_of, 
 use Rattle.pw_picture.specs.Stored.{moved, value_of}
 use Rattle.pw_picture.specs.Symbols.{begins_with}
 use Rattle.pw_picture.specs.Text.{fitted}
-use Rattle.pw_program_steps.proofs.Amounts.{amount-long, amount-received, amount-units, units_in, value-below}
-use Rattle.pw_program_steps.proofs.Parts.{drop-first, fitted-whole, take-first}
-use Rattle.pw_program_steps.specs.Meets.{received}
+use Rattle.pw_program_laws.proofs.Amounts.{amount-long, amount-received, amount-units, units_in, value-below}
+use Rattle.pw_program_laws.proofs.Parts.{drop-first, fitted-whole, take-first}
+use Rattle.pw_program_laws.specs.Meets.{received}
 
 -- ---- changes of three digits
 

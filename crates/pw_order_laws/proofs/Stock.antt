@@ -13,7 +13,7 @@ use Rattle.pw_picture.specs.declared.picture.Picture.{Picture}
 use Rattle.pw_picture.specs.declared.picture.Picture.TheVariants.{Number as NumberPicture}
 use Rattle.pw_picture.specs.Stored.{read_of}
 use Rattle.pw_picture.specs.Text.{fitted}
-use Rattle.pw_program_steps.specs.Meets.{ServerMeets, received}
+use Rattle.pw_program_laws.specs.Meets.{ServerMeets, received}
 use Rattle.pw_tree_meaning.specs.Conditions.{compared}
 use Rattle.pw_tree_meaning.specs.Values.{Chars, Number'}
 

@@ -22,14 +22,14 @@ use Rattle.pw_order_laws.specs.Stock.{TakenIsOrdered, delivered_in, lines_in, or
 use Rattle.pw_picture.specs.Stored.{moved, read_of, value_of}
 use Rattle.pw_picture.specs.Symbols.{begins_with}
 use Rattle.pw_picture.specs.Text.{fitted}
-use Rattle.pw_program_steps.proofs.Amounts.{given-units, stored-value, taken-units, times-one, units_in}
-use Rattle.pw_program_steps.proofs.Parts.{drop-first, fitted-whole, fitted-within, take-first}
-use Rattle.pw_program_steps.proofs.Servers.{program-replies}
-use Rattle.pw_program_steps.proofs.Texts.{length-fitted}
-use Rattle.pw_program_steps.proofs.Totals.{total-with_record}
-use Rattle.pw_program_steps.specs.Meets.{ServerMeets}
-use Rattle.pw_program_steps.specs.Texts.{HaveSizes, texts_in}
-use Rattle.pw_program_steps.specs.Totals.{counted_of, total_of}
+use Rattle.pw_program_laws.proofs.Amounts.{given-units, stored-value, taken-units, times-one, units_in}
+use Rattle.pw_program_laws.proofs.Parts.{drop-first, fitted-whole, fitted-within, take-first}
+use Rattle.pw_program_laws.proofs.Servers.{program-replies}
+use Rattle.pw_program_laws.proofs.Texts.{length-fitted}
+use Rattle.pw_program_laws.proofs.Totals.{total-with_record}
+use Rattle.pw_program_laws.specs.Meets.{ServerMeets}
+use Rattle.pw_program_laws.specs.Texts.{HaveSizes, texts_in}
+use Rattle.pw_program_laws.specs.Totals.{counted_of, total_of}
 use Rattle.pw_tree_meaning.specs.OfDeck.{behaviour}
 use Rattle.pw_tree_meaning.specs.Program.{Program}
 use Rattle.pw_tree_meaning.specs.Runs.{served_alone}

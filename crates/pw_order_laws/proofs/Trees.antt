@@ -12,7 +12,7 @@ use Rattle.pw_forms.specs.declared.operand.Operand.TheVariants as operands
 use Rattle.pw_forms.specs.declared.statement.Statement.{Statement}
 use Rattle.pw_forms.specs.declared.statement.Statement as form
 use Rattle.pw_forms.specs.declared.statement.Statement.{Row_of-Statement, end_of-Statement, more_of-Statement}
-use Rattle.pw_program_steps.proofs.Trees.{add, compare, elementary, group, move, own, paragraph}
+use Rattle.pw_program_laws.proofs.Trees.{add, compare, elementary, group, move, own, paragraph}
 use Rattle.pw_tree_meaning.specs.Program.{Program}
 
 abbrev stock_items : List Item

@@ -11,9 +11,9 @@ use Rattle.pw_order_laws.proofs.Requests.{Balance}
 use Rattle.pw_order_laws.specs.Clerk.{clerk, clerk_deck}
 use Rattle.pw_order_laws.specs.Servers.{OrderChoices}
 use Rattle.pw_order_laws.specs.Stock.{supply_behind}
-use Rattle.pw_program_steps.specs.Texts.{HaveSizes, texts_in}
-use Rattle.pw_request_laws.proofs.Units.{deck-requests}
-use Rattle.pw_request_laws.specs.Requests.{ProgramMeets}
+use Rattle.pw_program_laws.specs.Texts.{HaveSizes, texts_in}
+use Rattle.pw_program_laws.proofs.requests.Units.{deck-requests}
+use Rattle.pw_program_laws.specs.Requests.{ProgramMeets}
 use Rattle.pw_tree_meaning.specs.OfDeck.{behaviour}
 use Rattle.pw_tree_meaning.specs.Program.{DeckModel, Program, program_at}
 use Rattle.pw_tree_meaning.specs.Sound.{IsSoundDeck}

@@ -4,7 +4,7 @@ use Rattle.pw_files.specs.Records.{has_key, record_at}
 use Rattle.pw_invariants.specs.Units.{FileRecords}
 use Rattle.pw_picture.specs.Stored.{digits_of, value_of}
 use Rattle.pw_picture.specs.Text.{fitted}
-use Rattle.pw_program_steps.specs.Totals.{counted_of}
+use Rattle.pw_program_laws.specs.Totals.{counted_of}
 
 -- the number in a record of CONTROL: four digits behind its key
 abbrev pub number_in_control : List ℕ → ℕ

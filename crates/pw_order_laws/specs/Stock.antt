@@ -6,7 +6,7 @@ use Rattle.pw_invariants.specs.Units.{FileRecords}
 use Rattle.pw_picture.specs.Stored.{value_of}
 use Rattle.pw_picture.specs.Symbols.{begins_with}
 use Rattle.pw_picture.specs.Text.{fitted}
-use Rattle.pw_program_steps.specs.Totals.{total_of}
+use Rattle.pw_program_laws.specs.Totals.{total_of}
 
 module _ (items : List ℕ → Bool) where
   -- the pieces of an item, where it is one that is asked about

@@ -6,7 +6,7 @@ use Rattle.std.proofs.Math.Seq.{drop-append_seam, take-append_seam}
 use Rattle.std.proofs.lemmas.List.{length-append, length-take, take-append-le, take-take}
 use Rattle.pw_picture.specs.declared.picture.Picture.TheVariants as picture
 use Rattle.pw_picture.specs.Text.{fitted}
-use Rattle.pw_program_steps.proofs.Texts.{length-fitted}
+use Rattle.pw_program_laws.proofs.Texts.{length-fitted}
 use Rattle.pw_seat_laws.proofs.Parts.{apart-by, by-bool, fitted-whole, put-inside, put-outside, split-chars}
 use Rattle.pw_seat_laws.specs.Seats.{KeepsHolders, holder_in}
 use Rattle.pw_tree_meaning.proofs.Stored.{sizes}

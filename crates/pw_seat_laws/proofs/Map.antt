@@ -4,7 +4,7 @@ use Rattle.std.specs.Prelude.{codes}
 use Rattle.pw_files.specs.Records.{record_after}
 use Rattle.pw_invariants.specs.Units.{FileRecords}
 use Rattle.pw_onecopy.specs.Operation.{read_answer}
-use Rattle.pw_program_steps.proofs.Ends.{EndsWell, counted-well}
+use Rattle.pw_program_laws.proofs.Ends.{EndsWell, counted-well}
 use Rattle.pw_seat_laws.proofs.Trees.{is_done, is_found, map_found, map_full, map_main, map_missing, map_none, map_program, map_row, own}
 use Rattle.pw_seat_laws.proofs.Turns.{counted, finds, if-step, nth, own-records, plain-row, plain-step, step, until-step}
 use Rattle.pw_seat_laws.specs.Seats.{KeepsSeats}

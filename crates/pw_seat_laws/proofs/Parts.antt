@@ -5,7 +5,7 @@ use Rattle.std.specs.Prelude.{nat_le, ◌&&◌}
 use Rattle.std.proofs.lemmas.List.{append_assoc, append-nil, length-append, length-drop, take-append-drop, take_all}
 use Rattle.pw_data.specs.Store.{Cell}
 use Rattle.pw_picture.specs.Text.{fitted}
-use Rattle.pw_program_steps.proofs.Texts.{length-fitted}
+use Rattle.pw_program_laws.proofs.Texts.{length-fitted}
 use Rattle.pw_tree_meaning.specs.Store.{Spot, Store, chars_at, chars_from, lies_in, put_at, put_from}
 
 pub fitted-within : (n : ℕ) (xs : List ℕ) → n ≤ length xs → fitted n xs ≡ take n xs

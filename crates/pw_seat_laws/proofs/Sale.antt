@@ -21,7 +21,7 @@ use Rattle.pw_onecopy.specs.Update.{upd}
 use Rattle.pw_picture.specs.declared.picture.Picture.{Picture}
 use Rattle.pw_picture.specs.declared.picture.Picture.TheVariants as picture
 use Rattle.pw_picture.specs.Text.{fitted}
-use Rattle.pw_program_steps.proofs.Ends.{EndsWell, counted-well}
+use Rattle.pw_program_laws.proofs.Ends.{EndsWell, counted-well}
 use Rattle.pw_seat_laws.proofs.Held.{Fits, Held, dots, fits-put, held-key, held-outside, held-read, held-taken, held-written, holder-long, holder_spot, key_spot, row-long, row_spot}
 use Rattle.pw_seat_laws.proofs.Parts.{apart-by, put-outside}
 use Rattle.pw_seat_laws.proofs.Rows.{keeps-on, keeps-rewritten}

@@ -7,7 +7,7 @@ use Rattle.pw_files.specs.Records.{IsFile}
 use Rattle.pw_invariants.specs.Servers.{ServersKeep}
 use Rattle.pw_invariants.specs.Units.{FileRecords}
 use Rattle.pw_onecopy.specs.Behaviour.{Reply}
-use Rattle.pw_program_steps.proofs.Ends.{AsksWell, EndsWell, then-well}
+use Rattle.pw_program_laws.proofs.Ends.{AsksWell, EndsWell, then-well}
 use Rattle.pw_seat_laws.proofs.Map.{map-keeps}
 use Rattle.pw_seat_laws.proofs.Read.{map-is, sale-is}
 use Rattle.pw_seat_laws.proofs.Sale.{main-keeps, starts-kept}

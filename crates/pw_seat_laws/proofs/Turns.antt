@@ -15,8 +15,8 @@ use Rattle.pw_onecopy.proofs.Update.{upd_elim}
 use Rattle.pw_onecopy.specs.Update.{upd}
 use Rattle.pw_picture.specs.declared.picture.Picture.{Picture}
 use Rattle.pw_picture.specs.Stored.{is_kept, moved}
-use Rattle.pw_program_steps.proofs.Ends.{EndsWell, then-well, counted-well}
-use Rattle.pw_program_steps.specs.Known.{RecordsByFile}
+use Rattle.pw_program_laws.proofs.Ends.{EndsWell, then-well, counted-well}
+use Rattle.pw_program_laws.specs.Known.{RecordsByFile}
 use Rattle.pw_tree_meaning.specs.Arithmetic.{arithmetic_on, operated, or_else, receiver_decimals, receiver_of, stored_by, stored_in}
 use Rattle.pw_tree_meaning.specs.Files.{file_done}
 use Rattle.pw_tree_meaning.specs.Moves.{moved_chars, moves}

@@ -1,5 +1,0 @@
-use Rattle.pw_program_steps.proofs.Totals.{total-with_record, total-without_key}
-use Rattle.pw_program_steps.proofs.laws.sums_follow_changes.Goals as goal
-
-pub returns : goal.returns
-returns c = record { put = total-with_record; gone = total-without_key }

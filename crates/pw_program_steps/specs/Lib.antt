@@ -1,4 +1,0 @@
-pub mod Known
-pub mod Meets
-pub mod Texts
-pub mod Totals

@@ -1,5 +1,0 @@
-//! Laws alone: how a fact about what a server of a deck replies, and the files that it leaves then, is shown of its statements.
-//! docs/INVARIANTS.md has the way, and the bank as its example.
-#![tactic(auto)]
-
-pub mod laws;

@@ -1,8 +1,0 @@
-pub mod Follows
-pub mod Runs
-pub mod Forms
-pub mod Screens
-pub mod Statements
-pub mod Programs
-pub mod Units
-pub mod Codes
