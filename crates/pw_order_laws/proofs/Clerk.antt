@@ -96,7 +96,7 @@ module _ (items : List ℕ → Bool) (screens : List ScreenTable) (rest : DeckMo
   order_spot = record { at = 89; size = 8; picture = None }
 
   abbrev stock_request : List ℕ → List ℕ → List ℕ → RepliedRequest
-  stock_request item change reply = asked_of items 0 (item ++ change) reply
+  stock_request item change reply = asked_of 0 (item ++ change) reply
 
   -- a reply of STOCK-P in its items
   abbrev code_of : List ℕ → List ℕ
@@ -301,7 +301,7 @@ module _ (items : List ℕ → Bool) (screens : List ScreenTable) (rest : DeckMo
       all_pieces = 0 + line_pieces false + line_pieces true
 
       abbrev order_request : List ℕ → List ℕ → RepliedRequest
-      order_request total reply = asked_of items 1 (order_message items customer one first other second total) reply
+      order_request total reply = asked_of 1 (order_message customer one first other second total) reply
 
       -- it is written
       written : (message filler digits total code number item change reply_code price amount goods discount : List ℕ) (i : List ℕ) (registers : Registers) (sent : List RepliedRequest) → is_blank message ≡ true → length total ≡ 8 → Taken items all_pieces sent

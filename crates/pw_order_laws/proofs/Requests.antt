@@ -63,7 +63,14 @@ given-change qty long = (amount-long 3 0 (pieces qty) refl (pieces-small qty lon
 
 -- ---- messages
 
--- a message to STOCK-P: an item and a change
+-- a message to ORDER-P: a customer, two lines, and a total
+abbrev pub order_message : List ℕ → List ℕ → List ℕ → List ℕ → List ℕ → List ℕ → List ℕ
+order_message customer one first other second total = customer ++ (one ++ (first ++ (other ++ (second ++ total))))
+
+-- a request with a reply
+abbrev pub asked_of : ℕ → List ℕ → List ℕ → RepliedRequest
+asked_of c message reply = record { class = c; message = message; reply = reply }
+
 module _ (items : List ℕ → Bool) where
   no-pieces : (item : List ℕ) → pieces_of items item 0 ≡ 0
   no-pieces item = by (items item)
@@ -72,6 +79,7 @@ module _ (items : List ℕ → Bool) where
       by true = refl
       by false = refl
 
+  -- a message to STOCK-P: an item and a change
   message-takes : (item change : List ℕ) → length item ≡ 4 → length change ≡ 4
       → taken_by items (item ++ change) ≡ (if begins_with 45 change then pieces_of items item (value_of 0 (drop 1 change)) else 0)
   message-takes item change one two =
@@ -91,10 +99,6 @@ module _ (items : List ℕ → Bool) where
   more-by : (minus : Bool) (m v : ℕ) (item : List ℕ) → signed minus m ≡ pos v → (if minus then pieces_of items item m else 0) ≡ 0
   more-by true m v item e = let none : m ≡ 0 = omega (arith, ints, e) in ap (pieces_of items item) none ∙ no-pieces item
   more-by false m v item e = refl
-
-  -- the lines of a message to ORDER-P
-  abbrev pub order_message : List ℕ → List ℕ → List ℕ → List ℕ → List ℕ → List ℕ → List ℕ
-  order_message customer one first other second total = customer ++ (one ++ (first ++ (other ++ (second ++ total))))
 
   line-is : (item qty rest : List ℕ) → length item ≡ 4 → length qty ≡ 3 → line_in items (item ++ (qty ++ rest)) ≡ pieces_of items item (value_of 0 qty)
   line-is item qty rest one two =
@@ -130,10 +134,6 @@ module _ (items : List ℕ → Bool) where
       ∙ ap (λ k. pieces_of items one (value_of 0 first) + k) (ap (line_in items) next ∙ line-is other second total d e)
 
   -- ---- requests
-
-  -- a request with a reply
-  abbrev pub asked_of : ℕ → List ℕ → List ℕ → RepliedRequest
-  asked_of c message reply = record { class = c; message = message; reply = reply }
 
   -- the requests of a unit bring each supply back to itself
   abbrev pub Balance : List RepliedRequest → Type 0
