@@ -1,72 +1,28 @@
 -- What ORDERS's statements have to meet, and that they do: the requests of each unit balance.
-use Rattle.std.proofs.Common.{◌≡◌, ℕ, suc, ◌+◌, Bool, true, false, not, List, [], ◌∷◌, ◌++◌, length, take, drop, Some, None, pos, refl, sym, ap, ◌∙◌, subst}
+use Rattle.std.proofs.Common.{◌≡◌, ℕ, suc, ◌+◌, Bool, true, false, List, [], ◌∷◌, ◌++◌, length, take, drop, Some, None, refl, sym, ◌∙◌, subst}
 use Rattle.std.specs.Prelude.{bytes_eq, codes}
-use Rattle.std.specs.Ordering.{int_cmp, is_eq, is_gt}
 use Rattle.std.proofs.lemmas.Bool.{false≢true, true≢false}
 use Rattle.pw_code.specs.declared.field.ScreenTable.{ScreenTable}
 use Rattle.pw_forms.specs.declared.statement.Statement.{Statement}
 use Rattle.pw_forms.specs.declared.statement.Statement.{Row_of-Statement, end_of-Statement, more_of-Statement}
 use Rattle.pw_invariants.specs.Requests.{RepliedRequest}
 use Rattle.pw_number.specs.Arithmetic.{sized}
+use Rattle.pw_order_laws.proofs.ClerkItems.{both, by-some, clerk_sizes, digit, digit_behind, is_blank, neither, no-pieces, with_classes}
 use Rattle.pw_order_laws.proofs.ClerkTrees.{all_checked, all_taken, clerk_program, code as send_code, delivery_done, goods_totalled, line_taken, lines_checked, lines_taken, next_taken, order_answered, order_begun, order_checked, order_settled, order_totalled, pieces_priced, pieces_taken, stock_changed, store_full}
 use Rattle.pw_order_laws.proofs.Requests.{Balance, Taken, asked_of, delivery-balances, order-balances, order_message, pieces, taken-more, taken-none, taken-received, taken-same, taken_from_zero}
 use Rattle.pw_order_laws.proofs.Stock.{three}
 use Rattle.pw_order_laws.specs.Stock.{pieces_of}
 use Rattle.pw_picture.specs.Stored.{moved, value_of}
 use Rattle.pw_picture.specs.Text.{fitted}
-use Rattle.pw_picture.specs.declared.picture.Picture.TheVariants.{Number as NumberPicture, Text as TextPicture}
-use Rattle.pw_program_laws.proofs.Amounts.{not-above, times-one}
 use Rattle.pw_program_laws.proofs.Texts.{length-fitted, parted, text_no, texts-parted}
 use Rattle.pw_program_laws.specs.Meets.{received}
 use Rattle.pw_program_laws.specs.Texts.{HaveSizes, with_moved}
 use Rattle.pw_program_laws.proofs.requests.Codes.{reply-cases}
 use Rattle.pw_program_laws.specs.Requests.{AloneMeets, BranchMeets, ParagraphMeets, ProgramMeets, RequesterMoment, TurnMeets, TurnsMeet, sent_behind}
-use Rattle.pw_tree_meaning.specs.Conditions.{compared}
 use Rattle.pw_tree_meaning.specs.Program.{DeckModel}
 use Rattle.pw_tree_meaning.specs.State.{Registers}
 use Rattle.pw_tree_meaning.specs.Store.{Spot}
-use Rattle.pw_tree_meaning.specs.Values.{Chars, Number', Spaces', Text'}
-
--- the sizes of the items of ORDERS
-abbrev pub clerk_sizes : List ℕ
-clerk_sizes = 1 ∷ 40 ∷ 4 ∷ 3 ∷ 4 ∷ 3 ∷ 1 ∷ 3 ∷ 8 ∷ 4 ∷ 3 ∷ 4 ∷ 3 ∷ 8 ∷ 4 ∷ 4 ∷ 4 ∷ 4 ∷ 4 ∷ 6 ∷ 9 ∷ 8 ∷ 8 ∷ 1 ∷ []
-
--- the tests of MESSAGE, and of the pieces of a line
-abbrev is_blank : List ℕ → Bool
-is_blank message = is_eq (compared (Chars (Some (TextPicture 40)) message) Spaces')
-
-abbrev has_pieces : List ℕ → Bool
-has_pieces qty = is_gt (compared (Chars (Some (NumberPicture 3 0 false)) qty) (Number' (codes "0")))
-
-no-pieces : (qty : List ℕ) → has_pieces qty ≡ false → value_of 0 qty ≡ 0
-no-pieces qty e = not-above (value_of 0 qty) (sym (ap (λ z. is_gt (int_cmp z (pos 0))) (times-one (pos (value_of 0 qty)))) ∙ e)
-
-both : (b : Bool) → b ≡ true → not b ≡ true → ⊥
-both true e f = absurd (false≢true f)
-both false e f = absurd (false≢true e)
-
-neither : (b : Bool) → b ≡ false → not b ≡ false → ⊥
-neither true e f = absurd (true≢false e)
-neither false e f = absurd (true≢false f)
-
-by-some : (one other : List ℕ) → Some one ≡ Some other → one ≡ other
-by-some one other e = cc
-
--- the two lines by whether it is the second: I at it, and behind it
-abbrev digit : Bool → List ℕ
-digit false = codes "1"
-digit true = codes "2"
-
-abbrev digit_behind : Bool → List ℕ
-digit_behind false = codes "2"
-digit_behind true = codes "3"
-
--- a deck with the classes of the order entry
-abbrev pub with_classes : DeckModel → ℕ → ℕ → DeckModel
-with_classes rest stock_processes order_processes = record rest {
-  classes = (record { name = codes "STOCK-SRV"; server = 0; processes = stock_processes })
-      ∷ (record { name = codes "ORDER-SRV"; server = 1; processes = order_processes }) ∷ [];
-}
+use Rattle.pw_tree_meaning.specs.Values.{Text'}
 
 module _ (items : List ℕ → Bool) (screens : List ScreenTable) (rest : DeckModel) (stock_processes order_processes : ℕ) where
   abbrev deck : DeckModel

@@ -7,5 +7,6 @@ pub mod Order
 pub mod Keeps
 pub mod Supply
 pub mod Requests
+pub mod ClerkItems
 pub mod Clerk
 pub mod Units

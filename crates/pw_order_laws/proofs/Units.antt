@@ -4,7 +4,8 @@ use Rattle.pw_code.specs.declared.field.ScreenTable.{ScreenTable}
 use Rattle.pw_code.specs.declared.lock.LockRule.{LockRule}
 use Rattle.pw_invariants.specs.Requests.{UnitsBalance}
 use Rattle.pw_onecopy.specs.IsBehaviour.{IsBehaviour}
-use Rattle.pw_order_laws.proofs.Clerk.{clerk-meets, clerk_sizes}
+use Rattle.pw_order_laws.proofs.Clerk.{clerk-meets}
+use Rattle.pw_order_laws.proofs.ClerkItems.{clerk_sizes}
 use Rattle.pw_order_laws.proofs.ClerkTrees.{clerk_program}
 use Rattle.pw_order_laws.proofs.Read.{clerk-is}
 use Rattle.pw_order_laws.proofs.Requests.{Balance}
