@@ -1,6 +1,6 @@
 #!/usr/bin/env bash
 # How many units a second the second program, `pathway_store`, makes durable with 1, 2 and 4 workers: 64 terminals of the generated
-# deck with 8 units each, in a new folder, by the clock of the shortest of three runs. Each unit is synced by itself. Beside it
+# deck with 8 units each, in a new folder, by the clock of the shortest of three runs. Up to 32 units are synced together. Beside it
 # stands PostgreSQL with fsync on, where it is installed, with 64 clients that make the same changes, each in a transaction; it
 # takes 1, 2 and 4 threads of pgbench. Folder and server lie below the directory for temporary files, so set TMPDIR to the disk that
 # is to be measured. It is no part of the gate. It takes the program that was built in its crate, or the one that is named.

@@ -6,6 +6,7 @@ use pw_base::memory::Memory;
 use pw_file_disk::fault::OpenFailed;
 use pw_input_output::status::Status;
 use pw_store_runs::ending::StoreFault;
+use pw_volume::disk::Disk;
 use pw_words::texts::refusal_text;
 use std::alloc::Global;
 
@@ -25,7 +26,7 @@ pub const OTHER_FILES: u8 = 12;
 pub const DAMAGED: u8 = 13;
 
 /// The status and the line of a fault.
-pub fn of_fault(alloc: Global, fault: StoreFault) -> Result<(u8, Bytes), Memory> {
+pub fn of_fault<D: Disk>(alloc: Global, fault: StoreFault<D>) -> Result<(u8, Bytes), Memory> {
     match fault {
         StoreFault::Refused(fault) => Ok((Status::Refused.number(), fault_line(alloc, fault)?)),
         StoreFault::NoStore => Ok((DAMAGED, line(alloc, b"STORE DAMAGED: DECK\n")?)),
@@ -34,7 +35,7 @@ pub fn of_fault(alloc: Global, fault: StoreFault) -> Result<(u8, Bytes), Memory>
             let text = format!(in alloc; "STORE DAMAGED AT {at}\n")?;
             Ok((DAMAGED, line(alloc, text.as_bytes())?))
         }
-        StoreFault::Failed => Ok((Status::DiscFault.number(), Bytes::new(alloc))),
+        StoreFault::Failed(_disk) => Ok((Status::DiscFault.number(), Bytes::new(alloc))),
         StoreFault::Memory => Err(Memory),
     }
 }

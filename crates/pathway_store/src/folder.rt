@@ -8,6 +8,8 @@ use pw_base::memory::Memory;
 use pw_base::source::Source;
 use pw_compiled_deck::deck::read;
 use pw_file_disk::fault::OpenFailed;
+use pw_file_disk::file_disk::FileDisk;
+use pw_file_disk::host::HostFile;
 use pw_file_disk::open::open;
 use pw_input_output::input::read_input;
 use pw_input_output::status::Status;
@@ -23,12 +25,12 @@ use std::thread::Threads;
 /// Why a call has no text of its own.
 #[derive(Drop)]
 enum StoreCallFault {
-    /// The source failed, or memory ran out.
+    /// The source failed, memory ran out, or the disk has failed.
     Status(Status),
     /// A file of the store was not opened.
     Opening(OpenFailed),
     /// The deck was not run.
-    Store(StoreFault),
+    Store(StoreFault<FileDisk<HostFile>>),
 }
 
 /// Runs the deck of the source over the store in a folder: the exit status and the text. It may wait for a thread.
@@ -74,7 +76,7 @@ fn run_deck<S: Source, R: Threads + Wait + Sync>(
         &NoGate,
     ) {
         Ok(Stored::Ended(ended, text, _disk)) => Ok((ended.status().number(), text)),
-        Ok(Stored::Failed(_disk)) => Err(StoreCallFault::Store(StoreFault::Failed)),
+        Ok(Stored::Failed(_disk)) => Err(StoreCallFault::Status(Status::DiscFault)),
         Err(fault) => Err(StoreCallFault::Store(fault)),
     }
 }
@@ -106,13 +108,13 @@ fn first_deck(
 ) -> Result<Vec<u8>, StoreCallFault> {
     let mut disk = open(host, alloc, folder, "deck", deck).map_err(StoreCallFault::Opening)?;
     let Ok(length) = disk.length() else {
-        return Err(StoreCallFault::Store(StoreFault::Failed));
+        return Err(StoreCallFault::Status(Status::DiscFault));
     };
     let Ok(mut bytes) = vec![in alloc; 0u8; length as usize] else {
         return Err(StoreCallFault::Status(Status::Memory));
     };
     match disk.read(0, bytes.as_mut_slice()) {
         Ok(()) => Ok(bytes),
-        Err(_) => Err(StoreCallFault::Store(StoreFault::Failed)),
+        Err(_) => Err(StoreCallFault::Status(Status::DiscFault)),
     }
 }

@@ -1,10 +1,9 @@
 -- What a run over a store begins with.
-use Rattle.std.proofs.Common.{◌≡◌, ◌∙◌, ℕ, List, Ok, Result, sym, ap, subst}
+use Rattle.std.proofs.Common.{◌≡◌, ◌≤◌, ◌∙◌, ℕ, List, Ok, Result, sym, ap, subst, arith}
 use Rattle.pw_code.specs.declared.file.FileInfo.{FileInfo}
 use Rattle.pw_code.specs.declared.system.System.{System}
 use Rattle.pw_code_meaning.specs.OfSystem.{behaviour}
-use Rattle.pw_deck_runs.proofs.Calling.{starts}
-use Rattle.pw_deck_runs.specs.recovery.Kept.{IsKept, TrailState, told_in}
+use Rattle.pw_deck_runs.specs.recovery.Kept.{TrailState, told_in}
 use Rattle.pw_event.specs.declared.script.FailLine.{FailLine}
 use Rattle.pw_files.specs.Records.{IsFile}
 use Rattle.pw_onecopy.specs.Behaviour.{Behaviour}
@@ -13,11 +12,11 @@ use Rattle.pw_store_runs.proofs.Setting.{IsSameOver}
 use Rattle.pw_store_runs.specs.Left.{RunsStored}
 use Rattle.pw_store_runs.specs.Systems.{BeginsStored, RunsOverTrail}
 use Rattle.pw_store_runs.specs.declared.ending.Stored.{Stored}
+use Rattle.pw_store_runs.specs.declared.ending.Stored.TheVariants.{Ended, Failed}
 use Rattle.pw_tmf.specs.Committed.{committed}
 use Rattle.pw_tmf.specs.Faulty.{with_faults}
 use Rattle.pw_tmf.specs.Starting.{told_at_start}
 use Rattle.pw_tmf.specs.Tmf.{told_of}
-use Rattle.pw_tmf.specs.Told.{Told}
 use Rattle.pw_trail.specs.Calls.{DiskHoldsUnits, moment}
 use Rattle.pw_trail.specs.Committing.{LeadsTo}
 use Rattle.pw_trail.specs.Files.{files_after, files_read, keys_of, told_with}
@@ -25,7 +24,6 @@ use Rattle.pw_trail.specs.Format.{units_in}
 use Rattle.pw_trail.specs.Restoring.{IsReadBack}
 use Rattle.pw_trail.specs.Stored.{those}
 use Rattle.pw_trail.specs.declared.changes.UnitChanges.{UnitChanges}
-use Rattle.pw_volume.specs.Life.{Life}
 use Rattle.pw_world_model.proofs.Starts as disc
 use Rattle.pw_world_model.specs.Worlds.{IsDiscOf}
 
@@ -79,16 +77,14 @@ module _ {S : Type 0} (held : S → List ℕ) (images : S → List ℕ → Type 
         faults = none;
       }
 
--- the units with which a trail begins are those that its last sync left, of which it is kept
-pub begins-kept : {S : Type 0} (held : S → List ℕ) (images : S → List ℕ → Type 0) (settled : S → List ℕ) (lasts : S → Life)
+-- the units with which a trail begins are those that its last sync left
+pub begins-stands : {S : Type 0} (held : S → List ℕ) (images : S → List ℕ → Type 0) (settled : S → List ℕ)
     (files : List FileInfo) (bytes : List ℕ) (system now : System) (trail : TrailState S)
     → images trail.disk (settled trail.disk) → BeginsStored held images files bytes system now trail
-    → IsKept held images settled lasts trail.files (those (units_in trail.files (settled trail.disk))) (lasts trail.disk) trail
-begins-kept held images settled lasts files bytes system now trail stays b =
-    let same : b.units ≡ those (units_in trail.files (settled trail.disk)) =
-    ap those (sym (b.stands.leaves (settled trail.disk) stays)) in
-    subst (λ (us : List UnitChanges). IsKept held images settled lasts trail.files us (lasts trail.disk) trail) same
-    (starts held images settled lasts b.units trail stays b.stands b.faults (ap (λ (t : Told). t.commits) b.tells))
+    → DiskHoldsUnits held images (moment trail.files trail.disk trail.is_broken) (Ok (those (units_in trail.files (settled trail.disk))))
+begins-stands held images settled files bytes system now trail stays b =
+    subst (λ (us : List UnitChanges). DiskHoldsUnits held images (moment trail.files trail.disk trail.is_broken) (Ok us))
+    (ap those (sym (b.stands.leaves (settled trail.disk) stays))) b.stands
 
 pub begins-units : {S : Type 0} (held : S → List ℕ) (images : S → List ℕ → Type 0) (settled : S → List ℕ)
     (files : List FileInfo) (bytes : List ℕ) (system now : System) (trail : TrailState S)
@@ -96,30 +92,41 @@ pub begins-units : {S : Type 0} (held : S → List ℕ) (images : S → List ℕ
     → those (units_in trail.files (settled trail.disk)) ≡ b.units
 begins-units held images settled files bytes system now trail stays b = ap those (b.stands.leaves (settled trail.disk) stays)
 
+-- a count that has risen since the trail was opened has risen since before
+earlier : {S : Type 0} (images : S → List ℕ → Type 0) (faulted : S → ℕ) (files : List FileInfo) (units : List UnitChanges) (first least : ℕ)
+    (sys : Behaviour) (system : System) (events : ℕ) (stored : Stored S) → first ≤ least
+    → RunsStored images faulted files units least sys system events stored → RunsStored images faulted files units first sys system events stored
+earlier images faulted files units first least sys system events (Ended ended text disk) le ran = ran
+earlier images faulted files units first least sys system events (Failed disk) le stopped =
+    record { log = stopped.log; run = stopped.run; left = stopped.left; rose = omega (arith, le, stopped.rose) }
+
 -- the run over such a trail is one over the records that it leads to
-pub runs-over : {S : Type 0} (held : S → List ℕ) (images : S → List ℕ → Type 0) (settled : S → List ℕ) (files : List FileInfo)
-    (bytes : List ℕ) (script : List FailLine) (system now : System) (trail : TrailState S) (events : ℕ) (stored : Stored S)
-    → IsSameOver → images trail.disk (settled trail.disk) → BeginsStored held images files bytes system now trail
-    → RunsStored images trail.files (those (units_in trail.files (settled trail.disk))) (behaviour script now) now events stored
-    → RunsOverTrail images files bytes script system events stored
-runs-over held images settled files bytes script system now trail events stored over stays b runs =
+pub runs-over : {S : Type 0} (held : S → List ℕ) (images : S → List ℕ → Type 0) (settled : S → List ℕ) (faulted : S → ℕ) (files : List FileInfo)
+    (bytes : List ℕ) (first : ℕ) (script : List FailLine) (system now : System) (trail : TrailState S) (events : ℕ) (stored : Stored S)
+    → IsSameOver → images trail.disk (settled trail.disk) → first ≤ faulted trail.disk
+    → BeginsStored held images files bytes system now trail
+    → RunsStored images faulted trail.files (those (units_in trail.files (settled trail.disk))) (faulted trail.disk) (behaviour script now) now events stored
+    → RunsOverTrail images faulted files bytes first script system events stored
+runs-over held images settled faulted files bytes first script system now trail events stored over stays le b runs =
     let records : ℕ → List (List ℕ) = files_after files b.units in
     let own : System = with_records system records in
     let sys : behaviour script now ≡ over_records (behaviour script system) records =
     ap (behaviour script) b.now_is ∙ over script system records b.are in
-    let of-files : RunsStored images files (those (units_in trail.files (settled trail.disk))) (behaviour script now) now events stored =
-    subst (λ (fs : List FileInfo). RunsStored images fs (those (units_in trail.files (settled trail.disk))) (behaviour script now) now events stored)
-    b.files_are runs in
-    let of-units : RunsStored images files b.units (behaviour script now) now events stored =
-    subst (λ (us : List UnitChanges). RunsStored images files us (behaviour script now) now events stored)
+    let since : RunsStored images faulted trail.files (those (units_in trail.files (settled trail.disk))) first (behaviour script now) now events stored =
+    earlier images faulted trail.files (those (units_in trail.files (settled trail.disk))) first (faulted trail.disk) (behaviour script now) now events stored le runs in
+    let of-files : RunsStored images faulted files (those (units_in trail.files (settled trail.disk))) first (behaviour script now) now events stored =
+    subst (λ (fs : List FileInfo). RunsStored images faulted fs (those (units_in trail.files (settled trail.disk))) first (behaviour script now) now events stored)
+    b.files_are since in
+    let of-units : RunsStored images faulted files b.units first (behaviour script now) now events stored =
+    subst (λ (us : List UnitChanges). RunsStored images faulted files us first (behaviour script now) now events stored)
     (begins-units held images settled files bytes system now trail stays b) of-files in
     record {
       units = b.units;
       has = b.has;
       are = b.are;
       ends =
-          subst (λ (s : System). RunsStored images files b.units (over_records (behaviour script system) records) s events stored) b.now_is
-          (subst (λ (m : Behaviour). RunsStored images files b.units m now events stored) sys of-units);
+          subst (λ (s : System). RunsStored images faulted files b.units first (over_records (behaviour script system) records) s events stored) b.now_is
+          (subst (λ (m : Behaviour). RunsStored images faulted files b.units first m now events stored) sys of-units);
     }
 
 -- the trail is a disc of the system with its records

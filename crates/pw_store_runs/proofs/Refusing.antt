@@ -23,25 +23,25 @@ pub if-err : {A E : Type 0} {P Q : E → Type 0} (answer : Result A E) → IfErr
 if-err (Ok x) h on = tt
 if-err (Err e) h on = on e h
 
-module _ (first trail bytes : List ℕ) where
+module _ {S : Type 0} (faulted : S → ℕ) (first trail : List ℕ) (least : ℕ) (bytes : List ℕ) where
   -- the deck's first fault
-  pub deck-refuses : (refusal : Refusal) → Refuses refusal (deck_of bytes) → RefusesStore first trail bytes (deck_refused refusal)
+  pub deck-refuses : (refusal : Refusal) → Refuses refusal (deck_of bytes) → RefusesStore faulted first trail least bytes (deck_refused refusal)
   deck-refuses (At line code) is = is
   deck-refuses Memory is = tt
 
   module _ (files : List FileInfo) (own : AreFilesOf first files) where
     -- the trail's
-    pub trail-refuses : (why : StoreFault) → RefusesTrail files trail why → RefusesStore first trail bytes why
+    pub trail-refuses : (why : StoreFault S) → RefusesTrail faulted least files trail why → RefusesStore faulted first trail least bytes why
     trail-refuses (fault.Refused found) h = absurd h
     trail-refuses fault.NoStore h = absurd h
     trail-refuses fault.OtherFiles h = absurd h
-    trail-refuses fault.Failed h = tt
+    trail-refuses (fault.Failed disk) h = h
     trail-refuses fault.Memory h = tt
     trail-refuses (fault.Damaged at) h = (own.deck, own.says, ap (λ (fs : List FileInfo). units_in fs trail) (sym own.are) ∙ h)
 
     -- the files are not the deck's
     pub unlike : (whole : Deck) (of : IsOf bytes whole) (mine theirs : List FileInfo) → mine ≡ files → theirs ≡ whole.system.files
-        → (AreAlike mine theirs → ⊥) → RefusesStore first trail bytes fault.OtherFiles
+        → (AreAlike mine theirs → ⊥) → RefusesStore faulted first trail least bytes fault.OtherFiles
     unlike whole of mine theirs same same_too not =
         let mine_is : mine ≡ own.deck.told.system.files = same ∙ own.are in
         let theirs_is : theirs ≡ of.deck.told.system.files = same_too ∙ ap (λ (w : Deck). w.system.files) of.is in (

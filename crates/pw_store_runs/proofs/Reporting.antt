@@ -21,7 +21,7 @@ use Rattle.pw_read_back.specs.Runs.{IsRunOf}
 use Rattle.pw_records.specs.Records.{AreAlike, AreRecordsOf, over_records, with_records}
 use Rattle.pw_report_text.specs.Meaning.{report_text}
 use Rattle.pw_store_runs.proofs.Setting.{BehavesOver, IsSameOver, KeepsValid, behaves-on, lines-on}
-use Rattle.pw_store_runs.specs.Left.{HasCommitted, RanStored, RunsStored, StoppedStored}
+use Rattle.pw_store_runs.specs.Left.{HasCommitted, HasSettled, RanStored, RunsStored, StoppedStored}
 use Rattle.pw_store_runs.specs.Stores.{AreFilesOf, EndsInStore, ReportsOver, StopsInStore, StoreRuns, meaning_over, named_over}
 use Rattle.pw_store_runs.specs.Systems.{RunsOverTrail}
 use Rattle.pw_store_runs.specs.declared.ending.Stored.{Stored}
@@ -106,24 +106,28 @@ module _ (lawful : AreLawful) (back : AreReadBack) (there : AreLinesThere) (keep
       left = subst (λ (b : Behaviour). HasCommitted files units b ran.log images) sys-is ran.left;
     }
 
-    stops-over : (images : List ℕ → Type 0) → StoppedStored files units sys images → StopsInStore files units of.deck images
-    stops-over images stopped = record {
+    stops-over : (images : List ℕ → Type 0) (least faults : ℕ) → StoppedStored files units sys images least faults
+        → StopsInStore files units of.deck images least faults
+    stops-over images least faults stopped = record {
       log = stopped.log;
       promises = lawful (meaning_over of.deck records) (subst IsBehaviour sys-is (over script whole.system records are behaves)) stopped.log
           (subst (λ (b : Behaviour). IsRun b stopped.log) sys-is stopped.run);
-      left = subst (λ (b : Behaviour). HasCommitted files units b stopped.log images) sys-is stopped.left;
+      left = subst (λ (b : Behaviour). HasSettled files units b stopped.log images) sys-is stopped.left;
+      rose = stopped.rose;
     }
 
-    ends-over : {S : Type 0} (images : S → List ℕ → Type 0) (stored : Stored S) → RunsStored images files units sys own events stored
-        → EndsInStore images files units of.deck events stored
-    ends-over images (Ended ended text disk) ran = reports-over ended text (images disk) ran
-    ends-over images (Failed disk) stopped = stops-over (images disk) stopped
+    ends-over : {S : Type 0} (images : S → List ℕ → Type 0) (faulted : S → ℕ) (least : ℕ) (stored : Stored S)
+        → RunsStored images faulted files units least sys own events stored
+        → EndsInStore images faulted files units least of.deck events stored
+    ends-over images faulted least (Ended ended text disk) ran = reports-over ended text (images disk) ran
+    ends-over images faulted least (Failed disk) stopped = stops-over (images disk) least (faulted disk) stopped
 
   -- a run over the store
-  pub store-runs : {S : Type 0} (images : S → List ℕ → Type 0) (first trail : List ℕ) (files : List FileInfo) (stored : Stored S)
-      → AreFilesOf first files → AreAlike files whole.system.files
-      → RunsOverTrail images files trail script whole.system events stored → StoreRuns images first trail bytes events stored
-  store-runs images first trail files stored own alike runs = record {
+  pub store-runs : {S : Type 0} (images : S → List ℕ → Type 0) (faulted : S → ℕ) (first trail : List ℕ) (least : ℕ)
+      (files : List FileInfo) (stored : Stored S) → AreFilesOf first files → AreAlike files whole.system.files
+      → RunsOverTrail images faulted files trail least script whole.system events stored
+      → StoreRuns images faulted first trail least bytes events stored
+  store-runs images faulted first trail least files stored own alike runs = record {
     base = own.deck;
     units = runs.units;
     store = record {
@@ -136,6 +140,6 @@ module _ (lawful : AreLawful) (back : AreReadBack) (there : AreLinesThere) (keep
         subst (λ (fs : List FileInfo). AreAlike fs of.deck.told.system.files) own.are
         (subst (λ (s : System). AreAlike files s.files) system-is alike);
     ends =
-        subst (λ (fs : List FileInfo). EndsInStore images fs runs.units of.deck events stored) own.are
-        (ends-over files runs.units runs.are images stored runs.ends);
+        subst (λ (fs : List FileInfo). EndsInStore images faulted fs runs.units least of.deck events stored) own.are
+        (ends-over files runs.units runs.are images faulted least stored runs.ends);
   }

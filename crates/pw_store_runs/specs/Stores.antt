@@ -1,5 +1,6 @@
 -- What the run of a deck over a store comes to.
 use Rattle.std.specs.Prelude.{◌≡◌, ℕ, List, All, Ok, Err}
+use Rattle.pw_base.specs.Outside.{Rose}
 use Rattle.pw_base.specs.declared.fault.Fault.{Fault}
 use Rattle.pw_base.specs.declared.fault.Refusal.{Refusal}
 use Rattle.pw_base.specs.declared.fault.Refusal.TheVariants.{At}
@@ -17,7 +18,7 @@ use Rattle.pw_onecopy.specs.Behaviour.{Behaviour}
 use Rattle.pw_read_back.specs.ReadFrom.{IsReadFrom}
 use Rattle.pw_records.specs.Records.{AreAlike, over_records, with_records}
 use Rattle.pw_report_text.specs.Meaning.{report_text}
-use Rattle.pw_store_runs.specs.Left.{HasCommitted}
+use Rattle.pw_store_runs.specs.Left.{HasCommitted, HasSettled}
 use Rattle.pw_store_runs.specs.declared.ending.StoreFault.{StoreFault}
 use Rattle.pw_store_runs.specs.declared.ending.StoreFault.TheVariants as fault
 use Rattle.pw_store_runs.specs.declared.ending.Stored.{Stored}
@@ -56,30 +57,33 @@ pub record ReportsOver (files : List FileInfo) (units : List UnitChanges) (deck 
   pub ends : EndsAs ended events (meaning_over deck (files_after files units)) log
   pub left : HasCommitted files units (meaning_over deck (files_after files units)) log images
 
--- the disk has failed in such a run, and the store has its commits
+-- the disk has failed in such a run, as its count of faults tells, and the store has those of its commits that are settled
 pub record StopsInStore (files : List FileInfo) (units : List UnitChanges) (deck : ParsedDeck) (images : List ℕ → Type 0)
-    : Type 0 where
+    (least faults : ℕ) : Type 0 where
   pub log : List Event
   pub promises : KeepsPromises (meaning_over deck (files_after files units)) log
-  pub left : HasCommitted files units (meaning_over deck (files_after files units)) log images
+  pub left : HasSettled files units (meaning_over deck (files_after files units)) log images
+  pub rose : Rose least faults
 
 -- one or the other
-abbrev pub EndsInStore : {S : Type 0} → (S → List ℕ → Type 0) → List FileInfo → List UnitChanges → ParsedDeck → ℕ → Stored S
-    → Type 0
-EndsInStore images files units deck events (Ended ended text disk) = ReportsOver files units deck events ended text (images disk)
-EndsInStore images files units deck events (Failed disk) = StopsInStore files units deck (images disk)
+abbrev pub EndsInStore : {S : Type 0} → (S → List ℕ → Type 0) → (S → ℕ) → List FileInfo → List UnitChanges → ℕ → ParsedDeck
+    → ℕ → Stored S → Type 0
+EndsInStore images faulted files units least deck events (Ended ended text disk) =
+    ReportsOver files units deck events ended text (images disk)
+EndsInStore images faulted files units least deck events (Failed disk) =
+    StopsInStore files units deck (images disk) least (faulted disk)
 
 -- The bytes are a deck whose files have the names and keys of the store's; it has run over the store's records, which are
 -- those of the first deck after the changes of the units.
-pub record StoreRuns {S : Type 0} (images : S → List ℕ → Type 0) (first trail bytes : List ℕ) (events : ℕ)
-    (stored : Stored S) : Type 0 where
+pub record StoreRuns {S : Type 0} (images : S → List ℕ → Type 0) (faulted : S → ℕ) (first trail : List ℕ) (least : ℕ)
+    (bytes : List ℕ) (events : ℕ) (stored : Stored S) : Type 0 where
   pub base : ParsedDeck
   pub units : List UnitChanges
   pub store : IsStore first trail base units
   pub deck : ParsedDeck
   pub says : deck_of bytes ≡ Ok deck
   pub alike : AreAlike base.told.system.files deck.told.system.files
-  pub ends : EndsInStore images base.told.system.files units deck events stored
+  pub ends : EndsInStore images faulted base.told.system.files units least deck events stored
 
 -- ---- refusals
 
@@ -91,22 +95,23 @@ pub record AreFilesOf (bytes : List ℕ) (files : List FileInfo) : Type 0 where
   pub each : All IsDeckFile files
 
 -- the fault where the deck is refused, and where the store's first deck is
-abbrev pub deck_refused : Refusal → StoreFault
+abbrev pub deck_refused : {S : Type 0} → Refusal → StoreFault S
 deck_refused (At line code) = fault.Refused (record { line = line; code = code })
 deck_refused refusal.Memory = fault.Memory
 
-abbrev pub first_refused : Refusal → StoreFault
+abbrev pub first_refused : {S : Type 0} → Refusal → StoreFault S
 first_refused (At line code) = fault.NoStore
 first_refused refusal.Memory = fault.Memory
 
--- the deck has this first fault, or the store's first deck has one; their files differ; or the trail is damaged at a place
-abbrev pub RefusesStore : List ℕ → List ℕ → List ℕ → StoreFault → Type 0
-RefusesStore first trail bytes (fault.Refused own) = deck_of bytes ≡ Err own
-RefusesStore first trail bytes fault.NoStore = (own : Fault) × (deck_of first ≡ Err own)
-RefusesStore first trail bytes fault.OtherFiles =
+-- the deck has this first fault, or the store's first deck has one; their files differ; the trail is damaged at a
+-- place; or the disk's count of faults rose
+abbrev pub RefusesStore : {S : Type 0} → (S → ℕ) → List ℕ → List ℕ → ℕ → List ℕ → StoreFault S → Type 0
+RefusesStore faulted first trail least bytes (fault.Refused own) = deck_of bytes ≡ Err own
+RefusesStore faulted first trail least bytes fault.NoStore = (own : Fault) × (deck_of first ≡ Err own)
+RefusesStore faulted first trail least bytes fault.OtherFiles =
     (base : ParsedDeck) × (deck : ParsedDeck) × (deck_of first ≡ Ok base) × (deck_of bytes ≡ Ok deck)
     × (AreAlike base.told.system.files deck.told.system.files → ⊥)
-RefusesStore first trail bytes (fault.Damaged at) =
+RefusesStore faulted first trail least bytes (fault.Damaged at) =
     (base : ParsedDeck) × (deck_of first ≡ Ok base) × (units_in base.told.system.files trail ≡ Err at)
-RefusesStore first trail bytes fault.Failed = Unit {0}
-RefusesStore first trail bytes fault.Memory = Unit {0}
+RefusesStore faulted first trail least bytes (fault.Failed disk) = Rose least (faulted disk)
+RefusesStore faulted first trail least bytes fault.Memory = Unit {0}

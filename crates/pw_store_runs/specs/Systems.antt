@@ -15,12 +15,12 @@ use Rattle.pw_trail.specs.Format.{units_in}
 use Rattle.pw_trail.specs.declared.changes.UnitChanges.{UnitChanges}
 
 -- The bytes are a trail of units of these files, which lead to records of the system, and the system has run over these.
-pub record RunsOverTrail {S : Type 0} (images : S → List ℕ → Type 0) (files : List FileInfo) (trail : List ℕ)
-    (script : List FailLine) (system : System) (events : ℕ) (stored : Stored S) : Type 0 where
+pub record RunsOverTrail {S : Type 0} (images : S → List ℕ → Type 0) (faulted : S → ℕ) (files : List FileInfo)
+    (trail : List ℕ) (least : ℕ) (script : List FailLine) (system : System) (events : ℕ) (stored : Stored S) : Type 0 where
   pub units : List UnitChanges
   pub has : units_in files trail ≡ Ok units
   pub are : AreRecordsOf system (files_after files units)
-  pub ends : RunsStored images files units (over_records (behaviour script system) (files_after files units))
+  pub ends : RunsStored images faulted files units least (over_records (behaviour script system) (files_after files units))
       (with_records system (files_after files units)) events stored
 
 -- The trail has the units of the bytes, on its disk and in each image, no fault, and no commit yet; and the system is the one

@@ -1,23 +1,34 @@
 //! The run of a system over the trail of a store.
 
-ghost use Rattle.std.specs.Prelude.{◌≡◌, IfOk};
+ghost use Rattle.std.specs.Prelude.{◌≡◌, ◌≤◌, IfOk, Ok, length};
 ghost use Rattle.pw_code_meaning.specs.OfSystem.{behaviour};
-ghost use Rattle.pw_deck_runs.specs.recovery.Kept.{IsKept, trail_state};
+ghost use Rattle.pw_group_commit.specs.Discs.{told_in};
+ghost use Rattle.pw_paired.specs.Step.{IsRun};
+ghost use Rattle.pw_paired.specs.Units.{committed_files};
 ghost use Rattle.pw_store_runs.specs.Left.{RunsStored};
+ghost use Rattle.pw_tmf.specs.Committed.{committed};
 ghost use Rattle.pw_tmf.specs.Faulty.{with_faults};
 ghost use Rattle.pw_tmf.specs.Tmf.{told_of};
+ghost use Rattle.pw_trail.specs.Calls.{DiskHoldsUnits, moment};
+ghost use Rattle.pw_world.specs.States.{seen};
+ghost use Rattle.pw_world_model.specs.Commits.{commits_in};
+ghost use Rattle.pw_world_model.specs.Seen.{state_of, sys_of};
 ghost use Rattle.pw_world_model.specs.Worlds.{IsDiscOf};
 
 use crate::ending::Stored;
 use pw_base::memory::Memory;
-use pw_deck_runs::recovery::kept::{KeptTrail, TrailNaming};
-use pw_deck_runs::recovery::run::trail_of;
+use pw_group_commit::group_log::LogNaming;
+use pw_group_commit::group_trail::GroupTrail;
 use pw_report::report::report;
+use pw_tmf::laws::committed_laws;
 use pw_trail::synced::Synced;
 use pw_trail::trail::Trail;
+use pw_volume::fault::WriteFault;
 use pw_workers::bounds::RunBounds;
 use pw_workers::gate::Gate;
 use pw_workers::over::{RunEnding, run_over};
+use pw_world::world::World;
+use pw_world_state::runs::run_laws;
 use pw_world_state::setup::Setup;
 use std::alloc::Global;
 use std::sync::Wait;
@@ -25,7 +36,7 @@ use std::thread::Threads;
 
 /// Runs a setup within bounds over a trail (docs/STORE.md): how the run ended, with the report of its log, and the disk as
 /// it left it. It may wait for a thread.
-pub fn run_kept<S: Synced + Send, N: TrailNaming, G: Gate, R: Threads + Wait + Sync>(
+pub fn run_kept<S: Synced + Send, N: LogNaming + Send + Sync, G: Gate, R: Threads + Wait + Sync>(
     rt: &R,
     alloc: Global,
     setup: Setup,
@@ -34,37 +45,51 @@ pub fn run_kept<S: Synced + Send, N: TrailNaming, G: Gate, R: Threads + Wait + S
     gate: &G,
 ) -> Result<Stored<S>, Memory>
     requires disc { IsDiscOf setup.system setup.script (with_faults trail.faults (told_of trail.tmf)) }
-    requires kept { IsKept S.held S.images S.settled S.lasts N.files N.before N.life (trail_state trail.log.files
-        trail.log.disk trail.log.is_broken trail.faults trail.tmf) }
-    ensures { IfOk result (RunsStored S.images N.files N.before (behaviour setup.script setup.system) setup.system
-        bounds.events) }
+    requires files { trail.log.files ≡ N.files }
+    requires stands { DiskHoldsUnits S.held S.images (moment trail.log.files trail.log.disk trail.log.is_broken)
+        (Ok N.before) }
+    requires count { N.least ≤ S.faulted trail.log.disk }
+    requires faults { trail.faults ≡ 0 }
+    ensures { IfOk result (RunsStored S.images S.faulted N.files N.before N.least (behaviour setup.script setup.system)
+        setup.system bounds.events) }
 {
-    let disc: KeptTrail<S, N> = KeptTrail::of(trail);
+    let disc: GroupTrail<S, N> = GroupTrail::new(trail)?;
     let over = run_over(rt, alloc, setup, disc, bounds, gate)?;
     match over {
         RunEnding::Ended(ended, world) => {
             let text = report(alloc, &world);
-            let trail = trail_of(world);
-            let disk = closed(trail);
-            match text {
-                Ok(text) => Ok(Stored::Ended(ended, text, disk)),
-                Err(Memory) => Err(Memory),
+            let mut disc = disc_of(world);
+            match disc.flush() {
+                Ok(()) => match text {
+                    Ok(text) => Ok(Stored::Ended(ended, text, disc.close())),
+                    Err(Memory) => Err(Memory),
+                },
+                Err(WriteFault::Failed) => Ok(Stored::Failed(disc.close())),
+                Err(WriteFault::Memory) => Err(Memory),
             }
         }
         RunEnding::Failed(world) => {
-            let trail = trail_of(world);
-            Ok(Stored::Failed(closed(trail)))
+            let disc = disc_of(world);
+            Ok(Stored::Failed(disc.close()))
         }
     }
 }
 
-/// The disk of a trail.
-fn closed<S: Synced>(trail: Trail<S>) -> S
-    ensures disk { result ≡ trail.log.disk }
-    ensures stays { S.images result (S.settled result) }
+/// The disc of a world. What it tells as committed are the committed records behind the log, and it has counted the units
+/// that commit in the log.
+fn disc_of<S: Synced + Send, N: LogNaming + Send + Sync>(world: World<GroupTrail<S, N>>) -> GroupTrail<S, N>
+    ensures told { told_in result ≡ (seen told_in world).kept.disc }
+    ensures committed { committed (told_in result)
+        ≡ committed_files (sys_of (seen told_in world)) (state_of (seen told_in world)) }
+    ensures run { IsRun (sys_of (seen told_in world)) (seen told_in world).log }
+    ensures room { length (seen told_in world).log ≤ (seen told_in world).limit }
+    ensures commits { (seen told_in world).kept.disc.commits
+        ≡ commits_in (sys_of (seen told_in world)) (seen told_in world).log }
 {
-    know_last(&trail);
-    trail.close()
+    world.holds();
+    run_laws();
+    committed_laws();
+    world.into_disc()
 }
 
 /// Shows that a crash may leave what the last sync left. It does nothing.

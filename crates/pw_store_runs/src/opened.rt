@@ -1,6 +1,6 @@
 //! What is opened of a store.
 
-ghost use Rattle.std.specs.Prelude.{◌≡◌, IfErr, IfOk};
+ghost use Rattle.std.specs.Prelude.{◌≡◌, ◌≤◌, IfErr, IfOk};
 ghost use Rattle.pw_code.specs.Valid.{IsValid};
 ghost use Rattle.pw_store_runs.specs.Refusals.{RefusesTrail};
 ghost use Rattle.pw_tmf.specs.Tmf.{told_of};
@@ -15,8 +15,8 @@ use pw_trail::trail::Trail;
 use pw_volume::disk::Disk;
 use std::alloc::Global;
 
-/// Opens the trail of a system on a disk, which is let go where that fails.
-pub fn opened<D: Disk>(alloc: Global, disk: D, system: &System) -> Result<Trail<D>, StoreFault>
+/// Opens the trail of a system on a disk, which is handed back where it fails.
+pub fn opened<D: Disk>(alloc: Global, disk: D, system: &System) -> Result<Trail<D>, StoreFault<D>>
     requires { IsValid system.now }
     ensures files { IfOk result (λ trail. trail.log.files ≡ system.now.files) }
     ensures read { IfOk result (λ trail.
@@ -25,13 +25,14 @@ pub fn opened<D: Disk>(alloc: Global, disk: D, system: &System) -> Result<Trail<
     ensures stands { IfOk result (λ trail. DiskHoldsUnits D.bytes D.may_leave
         (moment trail.log.files trail.log.disk trail.log.is_broken)
         (units_in system.now.files (D.bytes disk))) }
-    ensures fault { IfErr result (RefusesTrail system.now.files (D.bytes disk)) }
+    ensures count { IfOk result (λ trail. D.faults disk ≤ D.faults trail.log.disk) }
+    ensures fault { IfErr result (RefusesTrail D.faults (D.faults disk) system.now.files (D.bytes disk)) }
 {
     match Trail::open(alloc, disk, system) {
         Ok(trail) => Ok(trail),
-        Err((_disk, fault)) => match fault {
+        Err((disk, fault)) => match fault {
             OpenFault::Memory => Err(StoreFault::Memory),
-            OpenFault::Failed => Err(StoreFault::Failed),
+            OpenFault::Failed => Err(StoreFault::Failed(disk)),
             OpenFault::Damaged { at } => Err(StoreFault::Damaged { at }),
         },
     }

@@ -35,9 +35,10 @@ pub fn run_stored<D: Disk, G: Gate, R: Threads + Wait + Sync>(
     disk: D,
     bounds: RunBounds,
     gate: &G,
-) -> Result<Stored<D>, StoreFault>
-    ensures runs { IfOk result (StoreRuns D.may_leave first.now (D.bytes disk) bytes.now bounds.events) }
-    ensures fault { IfErr result (RefusesStore first.now (D.bytes disk) bytes.now) }
+) -> Result<Stored<D>, StoreFault<D>>
+    ensures runs { IfOk result (StoreRuns D.may_leave D.faults first.now (D.bytes disk) (D.faults disk)
+        bytes.now bounds.events) }
+    ensures fault { IfErr result (RefusesStore D.faults first.now (D.bytes disk) (D.faults disk) bytes.now) }
 {
     runs_keep_their_promises();
     runs_are_read_back();
@@ -62,7 +63,7 @@ pub fn run_stored<D: Disk, G: Gate, R: Threads + Wait + Sync>(
 }
 
 /// The fault of a deck that was not read.
-fn of_deck(refusal: Refusal) -> StoreFault
+fn of_deck<D: Disk>(refusal: Refusal) -> StoreFault<D>
     ensures { result ≡ deck_refused refusal }
 {
     match refusal {
@@ -72,7 +73,7 @@ fn of_deck(refusal: Refusal) -> StoreFault
 }
 
 /// The fault of a store whose first deck was not read.
-fn of_first(refusal: Refusal) -> StoreFault
+fn of_first<D: Disk>(refusal: Refusal) -> StoreFault<D>
     ensures { result ≡ first_refused refusal }
 {
     match refusal {

@@ -45,15 +45,16 @@ pub fn run_system<D: Disk, G: Gate, R: Threads + Wait + Sync>(
     disk: D,
     bounds: RunBounds,
     gate: &G,
-) -> Result<Stored<D>, StoreFault>
+) -> Result<Stored<D>, StoreFault<D>>
     requires valid { IsValid system }
     requires behaves { IsBehaviour (behaviour script.lines system) }
     requires lines { All (IsFailNamed system) script.lines }
     requires few { length script.lines ≤ most_fail_lines }
     requires alike { AreAlike files system.files }
     requires files { All IsDeckFile files }
-    ensures runs { IfOk result (RunsOverTrail D.may_leave files (D.bytes disk) script.lines system bounds.events) }
-    ensures fault { IfErr result (RefusesTrail files (D.bytes disk)) }
+    ensures runs { IfOk result (RunsOverTrail D.may_leave D.faults files (D.bytes disk) (D.faults disk)
+        script.lines system bounds.events) }
+    ensures fault { IfErr result (RefusesTrail D.faults (D.faults disk) files (D.bytes disk)) }
 {
     record_laws();
     let Ok(copy) = system.copy(alloc) else {
@@ -83,7 +84,7 @@ fn begun<D: Disk>(
     system: &System,
     own: &System,
     disk: D,
-) -> Result<(System, Trail<D>), StoreFault>
+) -> Result<(System, Trail<D>), StoreFault<D>>
     requires valid { IsValid system.now }
     requires own_valid { IsValid own.now }
     requires alike { AreAlike own.now.files system.now.files }
@@ -91,7 +92,8 @@ fn begun<D: Disk>(
     ensures begins { IfOk result (λ both. BeginsStored D.bytes D.may_leave own.now.files (D.bytes disk) system.now both.0
         (trail_state both.1.log.files both.1.log.disk both.1.log.is_broken both.1.faults both.1.tmf)) }
     ensures stays { IfOk result (λ both. D.may_leave both.1.log.disk (D.settled both.1.log.disk)) }
-    ensures fault { IfErr result (RefusesTrail own.now.files (D.bytes disk)) }
+    ensures count { IfOk result (λ both. D.faults disk ≤ D.faults both.1.log.disk) }
+    ensures fault { IfErr result (RefusesTrail D.faults (D.faults disk) own.now.files (D.bytes disk)) }
 {
     found_laws();
     let trail = opened(alloc, disk, own)?;

@@ -5,7 +5,7 @@ use Rattle.pw_code.specs.declared.system.System.{System}
 use Rattle.pw_code_meaning.specs.OfSystem.{behaviour}
 use Rattle.pw_deck_runs.specs.recovery.Kept.{told_in, trail_state}
 use Rattle.pw_onecopy.specs.IsBehaviour.{IsBehaviour}
-use Rattle.pw_store_runs.proofs.Beginning.{begins-disc, begins-kept, runs-over}
+use Rattle.pw_store_runs.proofs.Beginning.{begins-disc, begins-stands, runs-over}
 use Rattle.pw_store_runs.proofs.Setting.{behaves-on}
 use Rattle.pw_store_runs.proofs.system.run_system.Goals as goal
 use Rattle.pw_store_runs.specs.Left.{RunsStored}
@@ -37,12 +37,15 @@ run_kept-ran-requires-clause-disc g c κs within =
     (begins-disc g.D.Disk.bytes g.D.Disk.may_leave c.with_files-own.result.files (g.D.Disk.bytes c.args.disk)
     c.args.system c.in-Ok-ready.now c.args.script.lines state c.in-Ok-ready.ensures.begins)
 
-pub run_kept-ran-requires-clause-kept : goal.run_kept-ran-requires-clause-kept
-run_kept-ran-requires-clause-kept g c κs within =
+pub run_kept-ran-requires-clause-stands : goal.run_kept-ran-requires-clause-stands
+run_kept-ran-requires-clause-stands g c κs within =
     let trail = c.in-Ok-ready.trail in
     let state = trail_state trail.log.files trail.log.disk trail.log.is_broken trail.faults trail.tmf in
-    begins-kept g.D.Disk.bytes g.D.Disk.may_leave g.D.Disk.settled g.D.Disk.life c.with_files-own.result.files
+    begins-stands g.D.Disk.bytes g.D.Disk.may_leave g.D.Disk.settled c.with_files-own.result.files
     (g.D.Disk.bytes c.args.disk) c.args.system c.in-Ok-ready.now state c.in-Ok-ready.ensures.stays c.in-Ok-ready.ensures.begins
+
+pub run_kept-ran-requires-clause-faults : goal.run_kept-ran-requires-clause-faults
+run_kept-ran-requires-clause-faults g c κs within = c.in-Ok-ready.ensures.begins.faults
 
 pub returns-in-Ok-ran-clause-runs : goal.returns-in-Ok-ran-clause-runs
 returns-in-Ok-ran-clause-runs g c =
@@ -52,9 +55,9 @@ returns-in-Ok-ran-clause-runs g c =
     let b =
     subst (λ (fs : List FileInfo). BeginsStored g.D.Disk.bytes g.D.Disk.may_leave fs (g.D.Disk.bytes c.args.disk)
     c.args.system c.in-Ok-ready.now state) own c.in-Ok-ready.ensures.begins in
-    runs-over g.D.Disk.bytes g.D.Disk.may_leave g.D.Disk.settled c.args.files (g.D.Disk.bytes c.args.disk)
-    c.args.script.lines c.args.system c.in-Ok-ready.now state c.args.bounds.events c.in-Ok-ran.stored
-    c.record_laws.ensures.same c.in-Ok-ready.ensures.stays b
-    (subst (λ (s : SetupState). RunsStored g.D.Disk.may_leave trail.log.files
-    (those (units_in trail.log.files (g.D.Disk.settled trail.log.disk))) (behaviour s.script s.system) s.system
+    runs-over g.D.Disk.bytes g.D.Disk.may_leave g.D.Disk.settled g.D.Disk.faults c.args.files (g.D.Disk.bytes c.args.disk)
+    (g.D.Disk.faults c.args.disk) c.args.script.lines c.args.system c.in-Ok-ready.now state c.args.bounds.events c.in-Ok-ran.stored
+    c.record_laws.ensures.same c.in-Ok-ready.ensures.stays c.in-Ok-ready.ensures.count b
+    (subst (λ (s : SetupState). RunsStored g.D.Disk.may_leave g.D.Disk.faults trail.log.files
+    (those (units_in trail.log.files (g.D.Disk.settled trail.log.disk))) (g.D.Disk.faults trail.log.disk) (behaviour s.script s.system) s.system
     c.args.bounds.events c.in-Ok-ran.stored) c.setup_of-setup.ensures c.in-Ok-ran.ensures)

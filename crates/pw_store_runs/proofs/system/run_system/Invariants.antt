@@ -7,5 +7,5 @@ abbrev pub ghosts-run_kept : goal.ghosts-run_kept
 ghosts-run_kept g a = record {
   files = a.trail.log.files;
   before = those (units_in a.trail.log.files (g.D.Disk.settled a.trail.log.disk));
-  life = g.D.Disk.life a.trail.log.disk;
+  least = g.D.Disk.faults a.trail.log.disk;
 }

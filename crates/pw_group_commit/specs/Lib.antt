@@ -1,0 +1,2 @@
+pub mod Discs
+pub mod Grouped

@@ -1,0 +1,5 @@
+//! A disc over a trail that makes the units which commit durable in groups. docs/TRAIL.md has the rules.
+#![tactic(auto)]
+
+pub mod group_log;
+pub mod group_trail;
