@@ -1,5 +1,5 @@
 -- What a log of groups keeps, call by call.
-use Rattle.std.proofs.Common.{◌≡◌, ◌≢◌, ◌⊎◌, inl, inr, ◌∙◌, ℕ, ◌+◌, ◌<◌, ◌≤◌, Bool, true, false, List, [], ◌∷◌, ◌++◌, Ok, length, drop, refl, sym, ap, subst, arith, length-append}
+use Rattle.std.proofs.Common.{◌≡◌, ◌⊎◌, inl, inr, ◌∙◌, ℕ, ◌+◌, ◌<◌, ◌≤◌, true, false, List, [], ◌∷◌, ◌++◌, Ok, length, drop, refl, sym, ap, subst, arith, length-append}
 use Rattle.std.specs.Prelude.{Result}
 use Rattle.std.proofs.lemmas.Bool.{false≢true}
 use Rattle.std.proofs.lemmas.List.{append-nil, append_assoc, drop_at}
@@ -8,7 +8,7 @@ use Rattle.pw_code.specs.declared.file.FileInfo.{FileInfo}
 use Rattle.pw_group_commit.specs.Grouped.{GroupState, GroupStops, HasOrWithGroup, IsGroupLog, added_units, most_in_group, settled_units, waiting_units}
 use Rattle.pw_trail.specs.Calls.{DiskHoldsUnits, moment}
 use Rattle.pw_trail.specs.Format.{units_in, with_units}
-use Rattle.pw_trail.specs.Groups.{IsGroup, units_of}
+use Rattle.pw_trail.specs.Groups.{IsGroup}
 use Rattle.pw_trail.specs.Stored.{those}
 use Rattle.pw_trail.specs.declared.changes.UnitChanges.{UnitChanges}
 use Rattle.pw_trail.proofs.Groups.{group-none, group-units}

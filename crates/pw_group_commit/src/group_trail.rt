@@ -54,7 +54,13 @@ impl<S: Synced, N: LogNaming> GroupTrail<S, N> {
         requires commits { (told_of trail.tmf).commits ≡ 0 }
         ensures { IfOk result (λ made. told_in made ≡ with_faults trail.faults (told_of trail.tmf)) }
     {
-        let Trail { alloc, log, tmf, faults, .. } = trail;
+        let Trail {
+            alloc,
+            log,
+            tmf,
+            faults,
+            ..
+        } = trail;
         let log = GroupLog::new(alloc, log)?;
         Ok(GroupTrail {
             alloc,

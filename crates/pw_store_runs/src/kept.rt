@@ -77,7 +77,9 @@ pub fn run_kept<S: Synced + Send, N: LogNaming + Send + Sync, G: Gate, R: Thread
 
 /// The disc of a world. What it tells as committed are the committed records behind the log, and it has counted the units
 /// that commit in the log.
-fn disc_of<S: Synced + Send, N: LogNaming + Send + Sync>(world: World<GroupTrail<S, N>>) -> GroupTrail<S, N>
+fn disc_of<S: Synced + Send, N: LogNaming + Send + Sync>(
+    world: World<GroupTrail<S, N>>,
+) -> GroupTrail<S, N>
     ensures told { told_in result ≡ (seen told_in world).kept.disc }
     ensures committed { committed (told_in result)
         ≡ committed_files (sys_of (seen told_in world)) (state_of (seen told_in world)) }
