@@ -15,6 +15,9 @@ use pw_input_output::input::read_input;
 use pw_input_output::status::Status;
 use pw_store_runs::ending::{StoreFault, Stored};
 use pw_store_runs::store::run_stored;
+use pw_summed_disk::extent::{SHUT, piece_in, seal};
+use pw_summed_disk::fault::SumFault;
+use pw_summed_disk::summed_disk::SummedDisk;
 use pw_volume::disk::Disk;
 use pw_workers::bounds::RunBounds;
 use pw_workers::gate::NoGate;
@@ -30,7 +33,7 @@ enum StoreCallFault {
     /// A file of the store was not opened.
     Opening(OpenFailed),
     /// The deck was not run.
-    Store(StoreFault<FileDisk<HostFile>>),
+    Store(StoreFault<SummedDisk<FileDisk<HostFile>>>),
 }
 
 /// Runs the deck of the source over the store in a folder: the exit status and the text. It may wait for a thread.
@@ -65,7 +68,8 @@ fn run_deck<S: Source, R: Threads + Wait + Sync>(
 ) -> Result<(u8, Bytes), StoreCallFault> {
     let deck = deck_of(alloc, source)?;
     let first = first_deck(host, alloc, folder, deck.as_slice())?;
-    let disk = open(host, alloc, folder, "trail", &[0]).map_err(StoreCallFault::Opening)?;
+    let file = open(host, alloc, folder, "trail", &SHUT).map_err(StoreCallFault::Opening)?;
+    let disk = summed(alloc, file)?;
     match run_stored(
         rt,
         alloc,
@@ -99,22 +103,50 @@ fn deck_of<S: Source>(alloc: Global, source: &mut S) -> Result<Bytes, StoreCallF
     }
 }
 
-/// The bytes of the deck with which the store began, which is this one where the folder has none.
+/// The bytes of the deck with which the store began, which is this one where the folder has none. They are sealed in their
+/// file, and refused where their sum is amiss.
 fn first_deck(
     host: &HostRuntime,
     alloc: Global,
     folder: &str,
     deck: &[u8],
-) -> Result<Vec<u8>, StoreCallFault> {
-    let mut disk = open(host, alloc, folder, "deck", deck).map_err(StoreCallFault::Opening)?;
+) -> Result<Bytes, StoreCallFault> {
+    let Ok(sealed) = seal(alloc, deck) else {
+        return Err(StoreCallFault::Status(Status::Memory));
+    };
+    let mut disk =
+        open(host, alloc, folder, "deck", sealed.as_slice()).map_err(StoreCallFault::Opening)?;
     let Ok(length) = disk.length() else {
         return Err(StoreCallFault::Status(Status::DiscFault));
     };
     let Ok(mut bytes) = vec![in alloc; 0u8; length as usize] else {
         return Err(StoreCallFault::Status(Status::Memory));
     };
-    match disk.read(0, bytes.as_mut_slice()) {
-        Ok(()) => Ok(bytes),
-        Err(_) => Err(StoreCallFault::Status(Status::DiscFault)),
+    let Ok(()) = disk.read(0, bytes.as_mut_slice()) else {
+        return Err(StoreCallFault::Status(Status::DiscFault));
+    };
+    let Some(first) = piece_in(bytes.as_slice()) else {
+        return Err(StoreCallFault::Store(StoreFault::NoStore));
+    };
+    match Bytes::from_slice(alloc, first) {
+        Ok(first) => Ok(first),
+        Err(Memory) => Err(StoreCallFault::Status(Status::Memory)),
+    }
+}
+
+/// The disk of the trail, over its file. It is refused where a sum is amiss.
+fn summed<P: Disk>(alloc: Global, file: P) -> Result<SummedDisk<P>, StoreCallFault> {
+    match SummedDisk::open(alloc, file) {
+        Ok(disk) => Ok(disk),
+        Err((_file, fault)) => Err(of_sums(fault)),
+    }
+}
+
+/// Why the disk of the trail was not opened.
+fn of_sums(fault: SumFault) -> StoreCallFault {
+    match fault {
+        SumFault::Damaged { at } => StoreCallFault::Store(StoreFault::Damaged { at }),
+        SumFault::Failed => StoreCallFault::Status(Status::DiscFault),
+        SumFault::Memory => StoreCallFault::Status(Status::Memory),
     }
 }

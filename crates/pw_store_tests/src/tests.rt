@@ -1,3 +1,4 @@
 mod blocks;
 mod image;
+mod summed_disk;
 mod trail;

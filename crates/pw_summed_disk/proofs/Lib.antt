@@ -1,0 +1,6 @@
+mod Changes
+mod Damage
+mod Files
+mod Images
+mod Plans
+mod Reading

@@ -1,0 +1,5 @@
+pub mod Damage
+pub mod Extents
+pub mod Plans
+pub mod Summed
+pub mod Sums
