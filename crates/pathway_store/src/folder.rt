@@ -114,8 +114,9 @@ fn first_deck(
     let Ok(sealed) = seal(alloc, deck) else {
         return Err(StoreCallFault::Status(Status::Memory));
     };
-    let mut disk =
-        open(host, alloc, folder, "deck", sealed.as_slice()).map_err(StoreCallFault::Opening)?;
+    let mut disk = open(host, alloc, folder, "deck", sealed.as_slice()).map_err(
+        StoreCallFault::Opening,
+    )?;
     let Ok(length) = disk.length() else {
         return Err(StoreCallFault::Status(Status::DiscFault));
     };

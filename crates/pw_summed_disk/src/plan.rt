@@ -84,7 +84,11 @@ pub fn plan(
 }
 
 /// Seals a piece behind the shut gate, if a shut gate is its last byte.
-fn staging(alloc: Global, standing: DiskStanding, piece: &[u8]) -> Result<Option<PlannedWrite>, Memory>
+fn staging(
+    alloc: Global,
+    standing: DiskStanding,
+    piece: &[u8],
+) -> Result<Option<PlannedWrite>, Memory>
     requires { standing.gate + 4 < 2 ^ 64 }
     ensures planned { IfOk result (λ found. IfSome found (IsStaging standing piece.now)) }
     ensures past { OnErr result (0 < length piece.now) }

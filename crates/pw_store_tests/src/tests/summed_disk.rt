@@ -76,6 +76,9 @@ fn a_piece_is_staged_and_its_gate_is_opened(rt: HostRuntime) -> Result<(), Fail>
     let end = length.saturating_sub(1);
     write_within(&mut disk, end, &[1])?;
     disk.sync()?;
-    assert_eq!(rt; contents(alloc, &mut disk)?.as_slice(), b"\x01AB\x01CDE\x01F\0".as_slice());
+    assert_eq!(rt;
+        contents(alloc, &mut disk)?.as_slice(),
+        b"\x01AB\x01CDE\x01F\0".as_slice()
+    );
     Ok(())
 }

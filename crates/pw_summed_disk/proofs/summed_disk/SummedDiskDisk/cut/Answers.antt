@@ -49,7 +49,7 @@ returns-in-Ok-clause-cut g c =
     let end_is : c.args.length ≡ own.standing.end + 1 = search rules in
     let is : content (g.P.Disk.bytes own.disk) ≡ own.bytes.items = file_content _ _ _ _ k.file in
     let made = cut_made own.standing own.bytes.items (g.P.Disk.bytes own.disk) k.file c.args.length (own.standing.gate + 4) (g.P.Disk.bytes c.cut.new.self) c.truncate.new.self.items
-        (g.P.Disk.may_leave c.cut.new.self) end_is refl k.fits c.in-Ok.ensures.cut c.truncate.ensures.items in
+    (g.P.Disk.may_leave c.cut.new.self) end_is refl k.fits c.in-Ok.ensures.cut c.truncate.ensures.items in
     file_content _ _ _ _ made.file ∙ c.truncate.ensures.items ∙ ap (take c.args.length) (sym is)
 
 pub returns-in-Ok-clause-images : goal.returns-in-Ok-clause-images
@@ -60,8 +60,8 @@ returns-in-Ok-clause-images g c =
     let end_is : c.args.length ≡ own.standing.end + 1 = search rules in
     let is : content (g.P.Disk.bytes own.disk) ≡ own.bytes.items = file_content _ _ _ _ k.file in
     step_images (Shortened (own.standing.gate + 4)) (Shortened c.args.length) (g.P.Disk.may_leave own.disk) (g.P.Disk.may_leave c.cut.new.self) own.bytes.items (g.P.Disk.bytes own.disk)
-        is only c.cut.ensures.images
-        (λ image. cut_left own.standing own.bytes.items (g.P.Disk.bytes own.disk) k.file c.args.length (own.standing.gate + 4) image end_is refl)
+    is only c.cut.ensures.images
+    (λ image. cut_left own.standing own.bytes.items (g.P.Disk.bytes own.disk) k.file c.args.length (own.standing.gate + 4) image end_is refl)
 
 pub returns-in-Err-clause-images : goal.returns-in-Err-clause-images
 returns-in-Err-clause-images g c =
@@ -71,5 +71,5 @@ returns-in-Err-clause-images g c =
     let end_is : c.args.length ≡ own.standing.end + 1 = search rules in
     let is : content (g.P.Disk.bytes own.disk) ≡ own.bytes.items = file_content _ _ _ _ k.file in
     step_images (Shortened (own.standing.gate + 4)) (Shortened c.args.length) (g.P.Disk.may_leave own.disk) (g.P.Disk.may_leave c.cut.new.self) own.bytes.items (g.P.Disk.bytes own.disk)
-        is only c.cut.ensures.images
-        (λ image. cut_left own.standing own.bytes.items (g.P.Disk.bytes own.disk) k.file c.args.length (own.standing.gate + 4) image end_is refl)
+    is only c.cut.ensures.images
+    (λ image. cut_left own.standing own.bytes.items (g.P.Disk.bytes own.disk) k.file c.args.length (own.standing.gate + 4) image end_is refl)
