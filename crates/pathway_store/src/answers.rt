@@ -11,7 +11,7 @@ use pw_words::texts::refusal_text;
 use std::alloc::Global;
 
 /// The line that is written where the words say nothing.
-pub const USAGE: &[u8] = b"USAGE: pathway_store FOLDER [--workers N] [--events N]\n";
+pub const USAGE: &[u8] = b"USAGE: pathway_store FOLDER [--workers N] [--events N] [--follow]\n";
 
 /// The status where the folder is in use.
 pub const IN_USE: u8 = 10;

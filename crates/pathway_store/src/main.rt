@@ -27,7 +27,7 @@ fn main(rt: HostRuntime) -> ExitCode {
         }
         Err(status) => return ExitCode::from(status.number()),
     };
-    let (number, text) = run_in_folder(&rt, &rt, words.folder.as_str(), words.bounds, &mut source);
+    let (number, text) = run_in_folder(&rt, &rt, &words, &mut source);
     match written(&mut sink, Status::Finished, text.as_slice()) {
         Status::Finished => ExitCode::from(number),
         status => ExitCode::from(status.number()),

@@ -1,4 +1,4 @@
-//! The words of the command line: FOLDER [--workers N] [--events N].
+//! The words of the command line: FOLDER [--workers N] [--events N] [--follow].
 
 use pw_base::memory::Memory;
 use pw_command_line::read::read_words;
@@ -17,6 +17,17 @@ pub struct StoreWords {
     pub folder: String,
     /// With how many workers the run goes, and how many entries its log may have.
     pub bounds: RunBounds,
+    /// Whether each unit is told once it is settled.
+    pub follow: bool,
+}
+
+/// The words behind the folder.
+#[derive(Drop)]
+struct Options {
+    /// Those of the command `run`.
+    words: Vec<String>,
+    /// Whether `--follow` was among them.
+    follow: bool,
 }
 
 /// What the arguments of the process say: behind the program's name the folder, and then the options of `run`. An Err is
@@ -35,10 +46,10 @@ fn words_of(alloc: Global, mut arguments: Args) -> Result<StoreWords, Status> {
     let Some(folder) = arguments.next() else {
         return Err(Status::Usage);
     };
-    let Ok(options) = options_of(alloc, arguments) else {
+    let Ok(Options { words, follow }) = options_of(alloc, arguments) else {
         return Err(Status::Memory);
     };
-    match read_words(alloc, options.as_slice()) {
+    match read_words(alloc, words.as_slice()) {
         Ok(
             Words {
                 workers,
@@ -48,18 +59,24 @@ fn words_of(alloc: Global, mut arguments: Args) -> Result<StoreWords, Status> {
         ) => Ok(StoreWords {
             folder,
             bounds: RunBounds { workers, events },
+            follow,
         }),
         Err(WordsFault::Refused) => Err(Status::Usage),
         Err(WordsFault::Memory) => Err(Status::Memory),
     }
 }
 
-/// The options behind the folder, as those of the command `run`.
-fn options_of(alloc: Global, mut arguments: Args) -> Result<Vec<String>, Memory> {
+/// The options behind the folder: `--follow`, and all others as those of the command `run`.
+fn options_of(alloc: Global, mut arguments: Args) -> Result<Options, Memory> {
     let mut words = Vec::new(alloc);
+    let mut follow = false;
     words.push(format!(in alloc; "run")?)?;
     while let Some(word) = arguments.next() {
-        words.push(word)?;
+        if !follow && word.as_str() == "--follow" {
+            follow = true;
+        } else {
+            words.push(word)?;
+        }
     }
-    Ok(words)
+    Ok(Options { words, follow })
 }

@@ -68,6 +68,12 @@ module _ {S : Type 0} (held : S → List ℕ) (images : S → List ℕ → Type 
       of-units log [] [] files_are (subst (IsGroup log.files []) (sym empty) (group-none log.files)) none (omega (arith, none))
       (own.leaves (settled log.disk) stays) faults (λ is. own) (λ is. absurd (false≢true (sym stands.goes ∙ is)))
 
+  -- none was added to it
+  pub begins-none : (log : GroupState S) → units_in log.files (settled log.disk) ≡ Ok before → log.waiting ≡ 0 ∷ []
+      → added_units settled before log ≡ []
+  begins-none log is empty =
+      added-are log [] [] (is ∙ ap Ok (sym (append-nil before))) (subst (IsGroup log.files []) (sym empty) (group-none log.files))
+
   module _ (old : GroupState S) (k : Kept old) where
     abbrev us : List UnitChanges
     us = settled_units settled before old
@@ -100,8 +106,11 @@ module _ {S : Type 0} (held : S → List ℕ) (images : S → List ℕ → Type 
           })
           (λ is. absurd (false≢true (sym goes ∙ (sym broken ∙ is))))
 
-      pub more-added : added_units settled before new ≡ added_units settled before old ++ own ∷ []
-      more-added = added-are new us (ws ++ own ∷ []) synced waits ∙ sym (append_assoc us ws (own ∷ []))
+      pub more-waits : waiting_units new ≡ ws ++ own ∷ []
+      more-waits = waiting-are new (ws ++ own ∷ []) waits
+
+      pub more-settled : settled_units settled before new ≡ us
+      more-settled = settled-are new us synced
 
     -- the group was put behind the trail
     module _ (new : GroupState S) (stays : images new.disk (settled new.disk)) (files_are : new.files ≡ old.files)
@@ -129,8 +138,8 @@ module _ {S : Type 0} (held : S → List ℕ) (images : S → List ℕ → Type 
       pub flushed-none : waiting_units new ≡ []
       flushed-none = waiting-are new [] none-wait
 
-      pub flushed-added : added_units settled before new ≡ added_units settled before old
-      flushed-added = added-are new (us ++ ws) [] (read (settled new.disk) (leaves (settled new.disk) stays)) none-wait ∙ append-nil (us ++ ws)
+      pub flushed-settled : settled_units settled before new ≡ added_units settled before old
+      flushed-settled = settled-are new (us ++ ws) (read (settled new.disk) (leaves (settled new.disk) stays))
 
     -- the disk has failed at it, or there was no memory
     module _ (new : GroupState S) (files_are : new.files ≡ old.files) (was : old.is_broken ≡ false) (faults : faulted old.disk ≤ faulted new.disk)
@@ -144,8 +153,11 @@ module _ {S : Type 0} (held : S → List ℕ) (images : S → List ℕ → Type 
       as-before : units_in new.files (settled new.disk) ≡ Ok (before ++ us)
       as-before = ap (λ (fs : List FileInfo). units_in fs (settled new.disk)) files_are ∙ (unsettled ∙ (k.goes was).holds)
 
-      pub still-added : added_units settled before new ≡ added_units settled before old
-      still-added = added-are new us ws as-before still
+      pub still-settled : settled_units settled before new ≡ us
+      still-settled = settled-are new us as-before
+
+      pub still-waits : waiting_units new ≡ ws
+      still-waits = waiting-are new ws still
 
       pub stopped-kept : new.is_broken ≡ true → Rose (faulted old.disk) (faulted new.disk)
           → ((image : List ℕ) → images new.disk image → (units_in old.files image ≡ units_in old.files (held old.disk))

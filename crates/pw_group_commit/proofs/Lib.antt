@@ -1,2 +1,3 @@
+mod Following
 mod Grouping
 mod Telling

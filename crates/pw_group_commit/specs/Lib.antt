@@ -1,2 +1,3 @@
 pub mod Discs
+pub mod Followed
 pub mod Grouped

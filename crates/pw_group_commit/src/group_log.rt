@@ -1,7 +1,7 @@
 //! The log of a trail to which units are added in groups.
 
 ghost use Rattle.std.specs.Prelude.{◌≡◌, ◌<◌, ◌≤◌, ◌∷◌, ◌++◌, [], true, false, All, IfOk, IsErrOf, Ok, OnErr, OnOk};
-ghost use Rattle.pw_group_commit.specs.Grouped.{IsGroupLog, added_units, group_state, most_in_group, waiting_units};
+ghost use Rattle.pw_group_commit.specs.Grouped.{IsGroupLog, added_units, group_state, most_in_group, settled_units, waiting_units};
 ghost use Rattle.pw_trail.specs.Body.{fits};
 ghost use Rattle.pw_trail.specs.Calls.{DiskHoldsUnits, moment};
 
@@ -43,8 +43,8 @@ impl LogNaming for Brand {
     ghost least = { 0 };
 }
 
-/// The log of a trail to which units are added in groups: those that were added wait in memory until the group is full, or
-/// `flush` is called, and are then put behind the trail together. Contracts see what `GroupState` has.
+/// The log of a trail to which units are added in groups: those that were added wait in memory until `flush` is called, and are
+/// then put behind the trail together. Contracts see what `GroupState` has.
 #[derive(Drop)]
 pub struct GroupLog<S: Synced, N: LogNaming> {
     log: TrailLog<S>,
@@ -71,7 +71,8 @@ impl<S: Synced, N: LogNaming> GroupLog<S, N> {
         requires files { log.files ≡ N.files }
         requires stands { DiskHoldsUnits S.held S.images (moment log.files log.disk log.is_broken) (Ok N.before) }
         requires faults { N.least ≤ S.faulted log.disk }
-        ensures { IfOk result (λ own. own ≡ group_state log.files log.disk log.is_broken (0 ∷ []) 0) }
+        ensures is { IfOk result (λ own. own ≡ group_state log.files log.disk log.is_broken (0 ∷ []) 0) }
+        ensures none { IfOk result (λ own. added_units S.settled N.before own ≡ []) }
     {
         let group = RecordGroup::new(alloc)?;
         Ok(GroupLog {
@@ -96,45 +97,37 @@ impl<S: Synced, N: LogNaming> GroupLog<S, N> {
         let _count = self.count;
     }
 
-    /// Adds the record of a unit. Where the group is full, it is first put behind the trail.
-    pub fn add(&mut self, alloc: Global, unit: &UnitChanges) -> Result<(), WriteFault>
-        requires { All (λ change. fits self.old.files change ≡ true) unit.now.changes }
-        ensures ok { OnOk result (added_units S.settled N.before self.new
-            ≡ added_units S.settled N.before self.old ++ unit.now ∷ []) }
-        ensures err { OnErr result (added_units S.settled N.before self.new ≡ added_units S.settled N.before self.old) }
-        ensures goes { OnOk result ((self.old.is_broken ≡ false) × (self.new.is_broken ≡ false)) }
-        ensures memory { IsErrOf result WriteFault.Memory → self.new.is_broken ≡ false }
-        ensures failed { IsErrOf result WriteFault.Failed → self.new.is_broken ≡ true }
-        ensures broken { self.new.is_broken ≡ false → self.old.is_broken ≡ false }
+    /// Whether as many units wait as a group has at most.
+    pub fn is_full(&self) -> bool
+        ensures { result ≡ false → self.now.count < most_in_group }
+    {
+        self.count >= MOST_IN_GROUP
+    }
+
+    /// Adds the record of a unit to those that wait. An `Err` changes nothing.
+    pub fn add(&mut self, alloc: Global, unit: &UnitChanges) -> Result<(), Memory>
+        requires goes { self.old.is_broken ≡ false }
+        requires room { self.old.count < most_in_group }
+        requires fits { All (λ change. fits self.old.files change ≡ true) unit.now.changes }
+        ensures waits { OnOk result (waiting_units self.new ≡ waiting_units self.old ++ unit.now ∷ []) }
+        ensures settled { OnOk result (settled_units S.settled N.before self.new ≡ settled_units S.settled N.before self.old) }
+        ensures err { OnErr result (self.new ≡ self.old) }
+        ensures broken { self.new.is_broken ≡ self.old.is_broken }
         ensures files { self.new.files ≡ self.old.files }
     {
-        self.make_room()?;
         self.group.add(alloc, unit)?;
         self.count += 1;
         Ok(())
     }
 
-    /// Puts the group behind the trail where it is full.
-    fn make_room(&mut self) -> Result<(), WriteFault>
-        ensures room { OnOk result ((self.new.count < most_in_group) × (self.new.is_broken ≡ false)) }
-        ensures added { added_units S.settled N.before self.new ≡ added_units S.settled N.before self.old }
-        ensures memory { IsErrOf result WriteFault.Memory → self.new.is_broken ≡ false }
-        ensures failed { IsErrOf result WriteFault.Failed → self.new.is_broken ≡ true }
-        ensures broken { self.new.is_broken ≡ false → self.old.is_broken ≡ false }
-        ensures files { self.new.files ≡ self.old.files }
-    {
-        if self.log.is_broken || self.count >= MOST_IN_GROUP {
-            return self.flush();
-        }
-        Ok(())
-    }
-
-    /// Puts what waits behind the trail, all by two writes and two syncs: behind an `Ok` none waits. `Failed` comes only
-    /// where the disk has failed, in this call or an earlier one; want of memory changes nothing.
+    /// Puts what waits behind the trail, all by two writes and two syncs: behind an `Ok` none waits, and what did is settled.
+    /// `Failed` comes only where the disk has failed, in this call or an earlier one; want of memory changes nothing.
     pub fn flush(&mut self) -> Result<(), WriteFault>
         ensures ok { OnOk result ((waiting_units self.new ≡ []) × (self.new.is_broken ≡ false)) }
         ensures none { OnOk result (self.new.count ≡ 0) }
-        ensures added { added_units S.settled N.before self.new ≡ added_units S.settled N.before self.old }
+        ensures settled { OnOk result (settled_units S.settled N.before self.new ≡ added_units S.settled N.before self.old) }
+        ensures unsettled { OnErr result (settled_units S.settled N.before self.new ≡ settled_units S.settled N.before self.old) }
+        ensures waits { OnErr result (waiting_units self.new ≡ waiting_units self.old) }
         ensures memory { IsErrOf result WriteFault.Memory → self.new.is_broken ≡ false }
         ensures failed { IsErrOf result WriteFault.Failed → self.new.is_broken ≡ true }
         ensures broken { self.new.is_broken ≡ false → self.old.is_broken ≡ false }

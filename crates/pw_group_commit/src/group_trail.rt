@@ -2,12 +2,15 @@
 
 ghost use Rattle.std.specs.Prelude.{◌≡◌, ◌≤◌, [], false, true, IfOk, IsErrOf, Ok, OnOk};
 ghost use Rattle.pw_group_commit.specs.Discs.{IsGroupDisc, told_in};
-ghost use Rattle.pw_group_commit.specs.Grouped.{IsGroupLog, waiting_units};
+ghost use Rattle.pw_group_commit.specs.Followed.{names_of};
+ghost use Rattle.pw_group_commit.specs.Grouped.{IsGroupLog, settled_units, waiting_units};
 ghost use Rattle.pw_tmf.specs.Faulty.{with_faults};
 ghost use Rattle.pw_tmf.specs.Tmf.{told_of};
 ghost use Rattle.pw_trail.specs.Calls.{DiskHoldsUnits, moment};
 
-use crate::group_log::{GroupLog, LogNaming};
+use crate::followed_log::FollowedLog;
+use crate::follower::Follower;
+use crate::group_log::LogNaming;
 use pw_base::bytes::Bytes;
 use pw_base::memory::Memory;
 use pw_code::file::FileCall;
@@ -25,15 +28,15 @@ use std::marker::Model;
 /// committed records. After a fault of the disk `begin`, `operate`, `commit` and `back_out` answer `Failed`. Contracts see
 /// what `DiscState` has.
 #[derive(Drop)]
-pub struct GroupTrail<S: Synced, N: LogNaming> {
+pub struct GroupTrail<S: Synced, N: LogNaming, F: Follower> {
     alloc: Global,
-    log: GroupLog<S, N>,
+    log: FollowedLog<S, N, F>,
     tmf: Tmf,
     /// How often a call has answered `Failed`.
     faults: u64,
 }
 
-impl<S: Synced, N: LogNaming> Model for GroupTrail<S, N> {
+impl<S: Synced, N: LogNaming, F: Follower> Model for GroupTrail<S, N, F> {
     ghost use Rattle.pw_group_commit.specs.Discs.{DiscState, IsGroupDisc, disc_state as state};
 
     ghost Value = { DiscState S };
@@ -43,15 +46,16 @@ impl<S: Synced, N: LogNaming> Model for GroupTrail<S, N> {
     ghost invariant = { λ trail. IsGroupDisc S.settled N.before (state trail.log trail.faults trail.tmf) };
 }
 
-impl<S: Synced, N: LogNaming> GroupTrail<S, N> {
+impl<S: Synced, N: LogNaming, F: Follower> GroupTrail<S, N, F> {
     /// The disc over a trail that was opened.
-    pub fn new(trail: Trail<S>) -> Result<GroupTrail<S, N>, Memory>
+    pub fn new(trail: Trail<S>, follower: F) -> Result<GroupTrail<S, N, F>, Memory>
         requires files { trail.log.files ≡ N.files }
         requires stands { DiskHoldsUnits S.held S.images (moment trail.log.files trail.log.disk trail.log.is_broken)
             (Ok N.before) }
         requires count { N.least ≤ S.faulted trail.log.disk }
         requires faults { trail.faults ≡ 0 }
         requires commits { (told_of trail.tmf).commits ≡ 0 }
+        requires told { F.was_told follower [] }
         ensures { IfOk result (λ made. told_in made ≡ with_faults trail.faults (told_of trail.tmf)) }
     {
         let Trail {
@@ -61,7 +65,7 @@ impl<S: Synced, N: LogNaming> GroupTrail<S, N> {
             faults,
             ..
         } = trail;
-        let log = GroupLog::new(alloc, log)?;
+        let log = FollowedLog::new(alloc, log, follower)?;
         Ok(GroupTrail {
             alloc,
             log,
@@ -70,7 +74,7 @@ impl<S: Synced, N: LogNaming> GroupTrail<S, N> {
         })
     }
 
-    /// Puts what waits behind the trail: behind an `Ok` each unit that has committed is on the disk.
+    /// Puts what waits behind the trail and tells the follower of it: behind an `Ok` each unit that has committed is on the disk.
     pub fn flush(&mut self) -> Result<(), WriteFault>
         ensures ok { OnOk result ((waiting_units self.new.log ≡ []) × (self.new.log.is_broken ≡ false)) }
         ensures told { told_in self.new ≡ told_in self.old }
@@ -79,18 +83,20 @@ impl<S: Synced, N: LogNaming> GroupTrail<S, N> {
         self.log.flush()
     }
 
-    /// Gives the disk back, and shows what the type keeps.
-    pub fn close(self) -> S
-        ensures disk { result ≡ self.log.disk }
+    /// Gives back the disk and the follower, who was told of the units that are settled, and shows what the type keeps.
+    pub fn close(self) -> (S, F)
+        ensures disk { result.0 ≡ self.log.disk }
         ensures log { IsGroupLog S.held S.images S.settled S.faulted N.files N.before N.least self.log }
         ensures keeps { IsGroupDisc S.settled N.before self }
+        ensures told { F.was_told result.1 (names_of (settled_units S.settled N.before self.log)) }
     {
         let GroupTrail { log, .. } = self;
         log.close()
     }
 }
 
-impl<S: Synced + Send, N: LogNaming + Send + Sync> Disc for GroupTrail<S, N> {
+impl<S: Synced + Send, N: LogNaming + Send + Sync, F: Follower + Send> Disc
+    for GroupTrail<S, N, F> {
     ghost use Rattle.pw_group_commit.specs.Discs.{told_in};
 
     ghost told = { told_in };

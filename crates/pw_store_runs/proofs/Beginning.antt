@@ -6,6 +6,7 @@ use Rattle.pw_code_meaning.specs.OfSystem.{behaviour}
 use Rattle.pw_deck_runs.specs.recovery.Kept.{TrailState, told_in}
 use Rattle.pw_event.specs.declared.script.FailLine.{FailLine}
 use Rattle.pw_files.specs.Records.{IsFile}
+use Rattle.pw_group_commit.specs.declared.follower.UnitName.{UnitName}
 use Rattle.pw_onecopy.specs.Behaviour.{Behaviour}
 use Rattle.pw_records.specs.Records.{AreAlike, AreRecordsOf, over_records, with_records}
 use Rattle.pw_store_runs.proofs.Setting.{IsSameOver}
@@ -93,40 +94,41 @@ pub begins-units : {S : Type 0} (held : S → List ℕ) (images : S → List ℕ
 begins-units held images settled files bytes system now trail stays b = ap those (b.stands.leaves (settled trail.disk) stays)
 
 -- a count that has risen since the trail was opened has risen since before
-earlier : {S : Type 0} (images : S → List ℕ → Type 0) (faulted : S → ℕ) (files : List FileInfo) (units : List UnitChanges) (first least : ℕ)
-    (sys : Behaviour) (system : System) (events : ℕ) (stored : Stored S) → first ≤ least
-    → RunsStored images faulted files units least sys system events stored → RunsStored images faulted files units first sys system events stored
-earlier images faulted files units first least sys system events (Ended ended text disk) le ran = ran
-earlier images faulted files units first least sys system events (Failed disk) le stopped =
+earlier : {S F : Type 0} (images : S → List ℕ → Type 0) (faulted : S → ℕ) (was_told : F → List UnitName → Type 0) (files : List FileInfo) (units : List UnitChanges) (first least : ℕ)
+    (sys : Behaviour) (system : System) (events : ℕ) (stored : Stored S F) → first ≤ least
+    → RunsStored images faulted was_told files units least sys system events stored → RunsStored images faulted was_told files units first sys system events stored
+earlier images faulted was_told files units first least sys system events (Ended ended text disk follower) le ran = ran
+earlier images faulted was_told files units first least sys system events (Failed disk follower) le stopped =
     record { log = stopped.log; run = stopped.run; left = stopped.left; rose = omega (arith, le, stopped.rose) }
 
 -- the run over such a trail is one over the records that it leads to
-pub runs-over : {S : Type 0} (held : S → List ℕ) (images : S → List ℕ → Type 0) (settled : S → List ℕ) (faulted : S → ℕ) (files : List FileInfo)
-    (bytes : List ℕ) (first : ℕ) (script : List FailLine) (system now : System) (trail : TrailState S) (events : ℕ) (stored : Stored S)
+pub runs-over : {S F : Type 0} (held : S → List ℕ) (images : S → List ℕ → Type 0) (settled : S → List ℕ) (faulted : S → ℕ)
+    (was_told : F → List UnitName → Type 0) (files : List FileInfo)
+    (bytes : List ℕ) (first : ℕ) (script : List FailLine) (system now : System) (trail : TrailState S) (events : ℕ) (stored : Stored S F)
     → IsSameOver → images trail.disk (settled trail.disk) → first ≤ faulted trail.disk
     → BeginsStored held images files bytes system now trail
-    → RunsStored images faulted trail.files (those (units_in trail.files (settled trail.disk))) (faulted trail.disk) (behaviour script now) now events stored
-    → RunsOverTrail images faulted files bytes first script system events stored
-runs-over held images settled faulted files bytes first script system now trail events stored over stays le b runs =
+    → RunsStored images faulted was_told trail.files (those (units_in trail.files (settled trail.disk))) (faulted trail.disk) (behaviour script now) now events stored
+    → RunsOverTrail images faulted was_told files bytes first script system events stored
+runs-over held images settled faulted was_told files bytes first script system now trail events stored over stays le b runs =
     let records : ℕ → List (List ℕ) = files_after files b.units in
     let own : System = with_records system records in
     let sys : behaviour script now ≡ over_records (behaviour script system) records =
     ap (behaviour script) b.now_is ∙ over script system records b.are in
-    let since : RunsStored images faulted trail.files (those (units_in trail.files (settled trail.disk))) first (behaviour script now) now events stored =
-    earlier images faulted trail.files (those (units_in trail.files (settled trail.disk))) first (faulted trail.disk) (behaviour script now) now events stored le runs in
-    let of-files : RunsStored images faulted files (those (units_in trail.files (settled trail.disk))) first (behaviour script now) now events stored =
-    subst (λ (fs : List FileInfo). RunsStored images faulted fs (those (units_in trail.files (settled trail.disk))) first (behaviour script now) now events stored)
+    let since : RunsStored images faulted was_told trail.files (those (units_in trail.files (settled trail.disk))) first (behaviour script now) now events stored =
+    earlier images faulted was_told trail.files (those (units_in trail.files (settled trail.disk))) first (faulted trail.disk) (behaviour script now) now events stored le runs in
+    let of-files : RunsStored images faulted was_told files (those (units_in trail.files (settled trail.disk))) first (behaviour script now) now events stored =
+    subst (λ (fs : List FileInfo). RunsStored images faulted was_told fs (those (units_in trail.files (settled trail.disk))) first (behaviour script now) now events stored)
     b.files_are since in
-    let of-units : RunsStored images faulted files b.units first (behaviour script now) now events stored =
-    subst (λ (us : List UnitChanges). RunsStored images faulted files us first (behaviour script now) now events stored)
+    let of-units : RunsStored images faulted was_told files b.units first (behaviour script now) now events stored =
+    subst (λ (us : List UnitChanges). RunsStored images faulted was_told files us first (behaviour script now) now events stored)
     (begins-units held images settled files bytes system now trail stays b) of-files in
     record {
       units = b.units;
       has = b.has;
       are = b.are;
       ends =
-          subst (λ (s : System). RunsStored images faulted files b.units first (over_records (behaviour script system) records) s events stored) b.now_is
-          (subst (λ (m : Behaviour). RunsStored images faulted files b.units first m now events stored) sys of-units);
+          subst (λ (s : System). RunsStored images faulted was_told files b.units first (over_records (behaviour script system) records) s events stored) b.now_is
+          (subst (λ (m : Behaviour). RunsStored images faulted was_told files b.units first m now events stored) sys of-units);
     }
 
 -- the trail is a disc of the system with its records

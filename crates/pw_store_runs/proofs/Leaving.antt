@@ -9,7 +9,9 @@ use Rattle.pw_deck_runs.proofs.Counting.{commits-are}
 use Rattle.pw_deck_runs.specs.recovery.Commits.{commits}
 use Rattle.pw_event.specs.declared.script.FailLine.{FailLine}
 use Rattle.pw_group_commit.specs.Discs.{DiscState, IsGroupDisc, told_in}
+use Rattle.pw_group_commit.specs.Followed.{names_of}
 use Rattle.pw_group_commit.specs.Grouped.{HasOrWithGroup, IsGroupLog, settled_units, waiting_units}
+use Rattle.pw_group_commit.specs.declared.follower.UnitName.{UnitName}
 use Rattle.pw_onecopy.specs.Behaviour.{Behaviour}
 use Rattle.pw_paired.specs.State.{starting}
 use Rattle.pw_paired.specs.Step.{IsRun, after}
@@ -31,7 +33,8 @@ use Rattle.pw_world_model.specs.Seen.{Seen, state_of, sys_of}
 
 module _ {S : Type 0} (held : S → List ℕ) (images : S → List ℕ → Type 0) (settled : S → List ℕ) (faulted : S → ℕ)
     (files : List FileInfo) (before : List UnitChanges) (least : ℕ) (disc : DiscState S)
-    (kept : IsGroupLog held images settled faulted files before least disc.log) (own : IsGroupDisc settled before disc) where
+    (kept : IsGroupLog held images settled faulted files before least disc.log) (own : IsGroupDisc settled before disc)
+    (was_told : List UnitName → Type 0) (followed : was_told (names_of (settled_units settled before disc.log))) where
   abbrev first : List UnitChanges
   first = settled_units settled before disc.log
 
@@ -75,18 +78,19 @@ module _ {S : Type 0} (held : S → List ℕ) (images : S → List ℕ → Type 
       all : first ++ waiting ≡ first
       all = ap (λ (l : List UnitChanges). first ++ l) none ∙ append-nil first
 
-      has-committed : HasCommitted files before sys world.log (images disc.log.disk)
+      has-committed : HasCommitted files before sys world.log (images disc.log.disk) was_told
       has-committed = record {
         units = first;
         many = ap length (sym all) ∙ many;
         lead = ap (λ (l : List UnitChanges). files_after files (before ++ l)) (sym all) ∙ leads;
         leaves = λ image there.
             ap (λ (fs : List FileInfo). units_in fs image) (sym kept.files_are) ∙ (kept.goes goes).leaves image there;
+        followed = followed;
       }
 
       pub ran-stored : (ended : LogEnding) (text : List ℕ) → EndsAs ended events sys world.log
           → text ≡ report_text world.system (sys_of world) world.log
-          → RanStored files before sys system events ended text (images disc.log.disk)
+          → RanStored files before sys system events ended text (images disc.log.disk) was_told
       ran-stored ended text ends is = record {
         log = world.log;
         run = is-run;
@@ -106,7 +110,7 @@ module _ {S : Type 0} (held : S → List ℕ) (images : S → List ℕ → Type 
         by false goes = absurd (omega (arith, own.sound goes, ap (λ (t : Told). t.faults) tells, failed.1, same.count, none))
 
     -- the disk has failed
-    pub stopped-stored : disc.log.is_broken ≡ true → StoppedStored files before sys (images disc.log.disk) least (faulted disc.log.disk)
+    pub stopped-stored : disc.log.is_broken ≡ true → StoppedStored files before sys (images disc.log.disk) was_told least (faulted disc.log.disk)
     stopped-stored broken = record {
       log = world.log;
       run = is-run;
@@ -118,6 +122,7 @@ module _ {S : Type 0} (held : S → List ℕ) (images : S → List ℕ → Type 
         lead = leads;
         leaves = λ image there.
             subst (λ (fs : List FileInfo). HasOrWithGroup fs (before ++ first) waiting image) kept.files_are ((kept.stops broken).leaves image there);
+        followed = followed;
       };
       rose = (kept.stops broken).rose;
     }

@@ -13,6 +13,7 @@ use Rattle.pw_deck_runs.proofs.Lifts.{AreLawful}
 use Rattle.pw_deck_runs.specs.Meaning.{meaning, named}
 use Rattle.pw_event.specs.declared.event.Event.{Event}
 use Rattle.pw_event.specs.declared.script.FailLine.{FailLine}
+use Rattle.pw_group_commit.specs.declared.follower.UnitName.{UnitName}
 use Rattle.pw_onecopy.specs.Behaviour.{Behaviour}
 use Rattle.pw_onecopy.specs.IsBehaviour.{IsBehaviour}
 use Rattle.pw_paired.specs.Step.{IsRun}
@@ -87,10 +88,10 @@ module _ (lawful : AreLawful) (back : AreReadBack) (there : AreLinesThere) (keep
         (ap (λ (b : Behaviour). report_text own b log) (same-over script whole.system records are) ∙ sym is)
         (back own script log (run-of log run short))
 
-    reports-over : (ended : LogEnding) (text : List ℕ) (images : List ℕ → Type 0)
-        → RanStored files units sys own events ended text images
-        → ReportsOver files units of.deck events ended text images
-    reports-over ended text images ran = record {
+    reports-over : (ended : LogEnding) (text : List ℕ) (images : List ℕ → Type 0) (told : List UnitName → Type 0)
+        → RanStored files units sys own events ended text images told
+        → ReportsOver files units of.deck events ended text images told
+    reports-over ended text images told ran = record {
       log = ran.log;
       prints = record {
         promises = lawful (meaning_over of.deck records) (subst IsBehaviour sys-is (over script whole.system records are behaves)) ran.log
@@ -103,31 +104,31 @@ module _ (lawful : AreLawful) (back : AreReadBack) (there : AreLinesThere) (keep
             (read-from ran.log text ran.run (omega (arith, ran.ends.room, most)) ran.is);
       };
       ends = subst (λ (b : Behaviour). EndsAs ended events b ran.log) sys-is ran.ends;
-      left = subst (λ (b : Behaviour). HasCommitted files units b ran.log images) sys-is ran.left;
+      left = subst (λ (b : Behaviour). HasCommitted files units b ran.log images told) sys-is ran.left;
     }
 
-    stops-over : (images : List ℕ → Type 0) (least faults : ℕ) → StoppedStored files units sys images least faults
-        → StopsInStore files units of.deck images least faults
-    stops-over images least faults stopped = record {
+    stops-over : (images : List ℕ → Type 0) (told : List UnitName → Type 0) (least faults : ℕ)
+        → StoppedStored files units sys images told least faults → StopsInStore files units of.deck images told least faults
+    stops-over images told least faults stopped = record {
       log = stopped.log;
       promises = lawful (meaning_over of.deck records) (subst IsBehaviour sys-is (over script whole.system records are behaves)) stopped.log
           (subst (λ (b : Behaviour). IsRun b stopped.log) sys-is stopped.run);
-      left = subst (λ (b : Behaviour). HasSettled files units b stopped.log images) sys-is stopped.left;
+      left = subst (λ (b : Behaviour). HasSettled files units b stopped.log images told) sys-is stopped.left;
       rose = stopped.rose;
     }
 
-    ends-over : {S : Type 0} (images : S → List ℕ → Type 0) (faulted : S → ℕ) (least : ℕ) (stored : Stored S)
-        → RunsStored images faulted files units least sys own events stored
-        → EndsInStore images faulted files units least of.deck events stored
-    ends-over images faulted least (Ended ended text disk) ran = reports-over ended text (images disk) ran
-    ends-over images faulted least (Failed disk) stopped = stops-over (images disk) least (faulted disk) stopped
+    ends-over : {S F : Type 0} (images : S → List ℕ → Type 0) (faulted : S → ℕ) (was_told : F → List UnitName → Type 0) (least : ℕ)
+        (stored : Stored S F) → RunsStored images faulted was_told files units least sys own events stored
+        → EndsInStore images faulted was_told files units least of.deck events stored
+    ends-over images faulted was_told least (Ended ended text disk follower) ran = reports-over ended text (images disk) (was_told follower) ran
+    ends-over images faulted was_told least (Failed disk follower) stopped = stops-over (images disk) (was_told follower) least (faulted disk) stopped
 
   -- a run over the store
-  pub store-runs : {S : Type 0} (images : S → List ℕ → Type 0) (faulted : S → ℕ) (first trail : List ℕ) (least : ℕ)
-      (files : List FileInfo) (stored : Stored S) → AreFilesOf first files → AreAlike files whole.system.files
-      → RunsOverTrail images faulted files trail least script whole.system events stored
-      → StoreRuns images faulted first trail least bytes events stored
-  store-runs images faulted first trail least files stored own alike runs = record {
+  pub store-runs : {S F : Type 0} (images : S → List ℕ → Type 0) (faulted : S → ℕ) (was_told : F → List UnitName → Type 0)
+      (first trail : List ℕ) (least : ℕ) (files : List FileInfo) (stored : Stored S F) → AreFilesOf first files → AreAlike files whole.system.files
+      → RunsOverTrail images faulted was_told files trail least script whole.system events stored
+      → StoreRuns images faulted was_told first trail least bytes events stored
+  store-runs images faulted was_told first trail least files stored own alike runs = record {
     base = own.deck;
     units = runs.units;
     store = record {
@@ -140,6 +141,6 @@ module _ (lawful : AreLawful) (back : AreReadBack) (there : AreLinesThere) (keep
         subst (λ (fs : List FileInfo). AreAlike fs of.deck.told.system.files) own.are
         (subst (λ (s : System). AreAlike files s.files) system-is alike);
     ends =
-        subst (λ (fs : List FileInfo). EndsInStore images faulted fs runs.units least of.deck events stored) own.are
-        (ends-over files runs.units runs.are images faulted least stored runs.ends);
+        subst (λ (fs : List FileInfo). EndsInStore images faulted was_told fs runs.units least of.deck events stored) own.are
+        (ends-over files runs.units runs.are images faulted was_told least stored runs.ends);
   }

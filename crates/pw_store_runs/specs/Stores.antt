@@ -13,6 +13,7 @@ use Rattle.pw_deck.specs.Deck.{deck_of}
 use Rattle.pw_deck.specs.declared.deck.ParsedDeck.{ParsedDeck}
 use Rattle.pw_deck_runs.specs.Meaning.{meaning, named}
 use Rattle.pw_event.specs.declared.event.Event.{Event}
+use Rattle.pw_group_commit.specs.declared.follower.UnitName.{UnitName}
 use Rattle.pw_laws.specs.serial.Promises.{KeepsPromises}
 use Rattle.pw_onecopy.specs.Behaviour.{Behaviour}
 use Rattle.pw_read_back.specs.ReadFrom.{IsReadFrom}
@@ -51,39 +52,39 @@ pub record IsStore (first trail : List ℕ) (base : ParsedDeck) (units : List Un
 
 -- The deck has run over the records of the store, and has ended so with this report; and the store has its commits.
 pub record ReportsOver (files : List FileInfo) (units : List UnitChanges) (deck : ParsedDeck) (events : ℕ) (ended : LogEnding)
-    (text : List ℕ) (images : List ℕ → Type 0) : Type 0 where
+    (text : List ℕ) (images : List ℕ → Type 0) (told : List UnitName → Type 0) : Type 0 where
   pub log : List Event
   pub prints : PrintsOver deck (files_after files units) log text
   pub ends : EndsAs ended events (meaning_over deck (files_after files units)) log
-  pub left : HasCommitted files units (meaning_over deck (files_after files units)) log images
+  pub left : HasCommitted files units (meaning_over deck (files_after files units)) log images told
 
 -- the disk has failed in such a run, as its count of faults tells, and the store has those of its commits that are settled
 pub record StopsInStore (files : List FileInfo) (units : List UnitChanges) (deck : ParsedDeck) (images : List ℕ → Type 0)
-    (least faults : ℕ) : Type 0 where
+    (told : List UnitName → Type 0) (least faults : ℕ) : Type 0 where
   pub log : List Event
   pub promises : KeepsPromises (meaning_over deck (files_after files units)) log
-  pub left : HasSettled files units (meaning_over deck (files_after files units)) log images
+  pub left : HasSettled files units (meaning_over deck (files_after files units)) log images told
   pub rose : Rose least faults
 
 -- one or the other
-abbrev pub EndsInStore : {S : Type 0} → (S → List ℕ → Type 0) → (S → ℕ) → List FileInfo → List UnitChanges → ℕ → ParsedDeck
-    → ℕ → Stored S → Type 0
-EndsInStore images faulted files units least deck events (Ended ended text disk) =
-    ReportsOver files units deck events ended text (images disk)
-EndsInStore images faulted files units least deck events (Failed disk) =
-    StopsInStore files units deck (images disk) least (faulted disk)
+abbrev pub EndsInStore : {S F : Type 0} → (S → List ℕ → Type 0) → (S → ℕ) → (F → List UnitName → Type 0) → List FileInfo
+    → List UnitChanges → ℕ → ParsedDeck → ℕ → Stored S F → Type 0
+EndsInStore images faulted was_told files units least deck events (Ended ended text disk follower) =
+    ReportsOver files units deck events ended text (images disk) (was_told follower)
+EndsInStore images faulted was_told files units least deck events (Failed disk follower) =
+    StopsInStore files units deck (images disk) (was_told follower) least (faulted disk)
 
 -- The bytes are a deck whose files have the names and keys of the store's; it has run over the store's records, which are
 -- those of the first deck after the changes of the units.
-pub record StoreRuns {S : Type 0} (images : S → List ℕ → Type 0) (faulted : S → ℕ) (first trail : List ℕ) (least : ℕ)
-    (bytes : List ℕ) (events : ℕ) (stored : Stored S) : Type 0 where
+pub record StoreRuns {S F : Type 0} (images : S → List ℕ → Type 0) (faulted : S → ℕ) (was_told : F → List UnitName → Type 0)
+    (first trail : List ℕ) (least : ℕ) (bytes : List ℕ) (events : ℕ) (stored : Stored S F) : Type 0 where
   pub base : ParsedDeck
   pub units : List UnitChanges
   pub store : IsStore first trail base units
   pub deck : ParsedDeck
   pub says : deck_of bytes ≡ Ok deck
   pub alike : AreAlike base.told.system.files deck.told.system.files
-  pub ends : EndsInStore images faulted base.told.system.files units least deck events stored
+  pub ends : EndsInStore images faulted was_told base.told.system.files units least deck events stored
 
 -- ---- refusals
 

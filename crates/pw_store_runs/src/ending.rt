@@ -2,17 +2,18 @@
 
 use pw_base::bytes::Bytes;
 use pw_base::fault::Fault;
+use pw_group_commit::follower::Follower;
 use pw_trail::synced::Synced;
 use pw_volume::disk::Disk;
 use pw_workers::ending::LogEnding;
 
-/// What a run over a store comes to, with the disk as it left it (docs/STORE.md).
+/// What a run over a store comes to, with the disk and the follower as it left them (docs/STORE.md).
 #[derive(Drop)]
-pub enum Stored<S: Synced> {
-    /// It has ended so, and this is the report of its log. Each unit that has committed is on the disk.
-    Ended(LogEnding, Bytes, S),
+pub enum Stored<S: Synced, F: Follower> {
+    /// It has ended so, and this is the report of its log. Each unit that has committed is on the disk, and was told.
+    Ended(LogEnding, Bytes, S, F),
     /// The disk has failed.
-    Failed(S),
+    Failed(S, F),
 }
 
 /// Why a deck was not run over a store (docs/STORE.md).

@@ -1,6 +1,6 @@
 //! The run of a system over the trail of a store.
 
-ghost use Rattle.std.specs.Prelude.{◌≡◌, ◌≤◌, IfOk, Ok, length};
+ghost use Rattle.std.specs.Prelude.{◌≡◌, ◌≤◌, [], IfOk, Ok, length};
 ghost use Rattle.pw_code_meaning.specs.OfSystem.{behaviour};
 ghost use Rattle.pw_group_commit.specs.Discs.{told_in};
 ghost use Rattle.pw_paired.specs.Step.{IsRun};
@@ -17,6 +17,7 @@ ghost use Rattle.pw_world_model.specs.Worlds.{IsDiscOf};
 
 use crate::ending::Stored;
 use pw_base::memory::Memory;
+use pw_group_commit::follower::Follower;
 use pw_group_commit::group_log::LogNaming;
 use pw_group_commit::group_trail::GroupTrail;
 use pw_report::report::report;
@@ -34,52 +35,67 @@ use std::alloc::Global;
 use std::sync::Wait;
 use std::thread::Threads;
 
-/// Runs a setup within bounds over a trail (docs/STORE.md): how the run ended, with the report of its log, and the disk as
-/// it left it. It may wait for a thread.
-pub fn run_kept<S: Synced + Send, N: LogNaming + Send + Sync, G: Gate, R: Threads + Wait + Sync>(
+/// Runs a setup within bounds over a trail (docs/STORE.md): how the run ended, with the report of its log, and the disk and the
+/// follower as it left them. It may wait for a thread.
+pub fn run_kept<
+    S: Synced + Send,
+    N: LogNaming + Send + Sync,
+    F: Follower + Send,
+    G: Gate,
+    R: Threads + Wait + Sync,
+>(
     rt: &R,
     alloc: Global,
     setup: Setup,
     trail: Trail<S>,
+    follower: F,
     bounds: RunBounds,
     gate: &G,
-) -> Result<Stored<S>, Memory>
+) -> Result<Stored<S, F>, Memory>
     requires disc { IsDiscOf setup.system setup.script (with_faults trail.faults (told_of trail.tmf)) }
     requires files { trail.log.files ≡ N.files }
     requires stands { DiskHoldsUnits S.held S.images (moment trail.log.files trail.log.disk trail.log.is_broken)
         (Ok N.before) }
     requires count { N.least ≤ S.faulted trail.log.disk }
     requires faults { trail.faults ≡ 0 }
-    ensures { IfOk result (RunsStored S.images S.faulted N.files N.before N.least (behaviour setup.script setup.system)
+    requires told { F.was_told follower [] }
+    ensures { IfOk result (RunsStored S.images S.faulted F.was_told N.files N.before N.least (behaviour setup.script setup.system)
         setup.system bounds.events) }
 {
-    let disc: GroupTrail<S, N> = GroupTrail::new(trail)?;
+    let disc: GroupTrail<S, N, F> = GroupTrail::new(trail, follower)?;
     let over = run_over(rt, alloc, setup, disc, bounds, gate)?;
     match over {
         RunEnding::Ended(ended, world) => {
             let text = report(alloc, &world);
             let mut disc = disc_of(world);
             match disc.flush() {
-                Ok(()) => match text {
-                    Ok(text) => Ok(Stored::Ended(ended, text, disc.close())),
-                    Err(Memory) => Err(Memory),
-                },
-                Err(WriteFault::Failed) => Ok(Stored::Failed(disc.close())),
+                Ok(()) => {
+                    let (disk, follower) = disc.close();
+                    match text {
+                        Ok(text) => Ok(Stored::Ended(ended, text, disk, follower)),
+                        Err(Memory) => Err(Memory),
+                    }
+                }
+                Err(WriteFault::Failed) => {
+                    let (disk, follower) = disc.close();
+                    Ok(Stored::Failed(disk, follower))
+                }
                 Err(WriteFault::Memory) => Err(Memory),
             }
         }
         RunEnding::Failed(world) => {
             let disc = disc_of(world);
-            Ok(Stored::Failed(disc.close()))
+            let (disk, follower) = disc.close();
+            Ok(Stored::Failed(disk, follower))
         }
     }
 }
 
 /// The disc of a world. What it tells as committed are the committed records behind the log, and it has counted the units
 /// that commit in the log.
-fn disc_of<S: Synced + Send, N: LogNaming + Send + Sync>(
-    world: World<GroupTrail<S, N>>,
-) -> GroupTrail<S, N>
+fn disc_of<S: Synced + Send, N: LogNaming + Send + Sync, F: Follower + Send>(
+    world: World<GroupTrail<S, N, F>>,
+) -> GroupTrail<S, N, F>
     ensures told { told_in result ≡ (seen told_in world).kept.disc }
     ensures committed { committed (told_in result)
         ≡ committed_files (sys_of (seen told_in world)) (state_of (seen told_in world)) }

@@ -1,6 +1,6 @@
 //! The run of a deck over a store.
 
-ghost use Rattle.std.specs.Prelude.{◌≡◌, IfErr, IfOk};
+ghost use Rattle.std.specs.Prelude.{◌≡◌, [], IfErr, IfOk};
 ghost use Rattle.pw_store_runs.specs.Stores.{RefusesStore, StoreRuns, deck_refused, first_refused};
 
 use crate::ending::{StoreFault, Stored};
@@ -8,6 +8,7 @@ use crate::first::first_files;
 use crate::system::run_system;
 use pw_base::fault::{Fault, Refusal};
 use pw_compiled_deck::deck::{Deck, read};
+use pw_group_commit::follower::Follower;
 use pw_laws::serial::laws::runs_keep_their_promises;
 use pw_read_back::failures::failure_laws;
 use pw_read_back::laws::runs_are_read_back;
@@ -22,21 +23,25 @@ use std::sync::Wait;
 use std::thread::Threads;
 
 /// Runs the deck of these bytes within bounds over a store (docs/STORE.md): the bytes of the deck with which it began, and
-/// the disk with its trail. How the run ended, with its report, and the disk as it left it. It may wait for a thread.
+/// the disk with its trail. How the run ended, with its report, and the disk and the follower as it left them. It may wait for a
+/// thread.
 ///
 /// The log is a run of the deck, by the trees of its programs, over the records of the store in place of its own, and keeps
 /// what is promised of logs (docs/PROMISES.md). The store then has a unit for each that commits in the log, behind those
-/// from before, and so has what a crash leaves of it, with at most one more.
-pub fn run_stored<D: Disk, G: Gate, R: Threads + Wait + Sync>(
+/// from before, and so has what a crash leaves of it. The follower is told of each unit once it is settled, and by the end of
+/// all of them.
+pub fn run_stored<D: Disk, F: Follower + Send, G: Gate, R: Threads + Wait + Sync>(
     rt: &R,
     alloc: Global,
     first: &[u8],
     bytes: &[u8],
     disk: D,
+    follower: F,
     bounds: RunBounds,
     gate: &G,
-) -> Result<Stored<D>, StoreFault<D>>
-    ensures runs { IfOk result (StoreRuns D.may_leave D.faults first.now (D.bytes disk) (D.faults disk)
+) -> Result<Stored<D, F>, StoreFault<D>>
+    requires told { F.was_told follower [] }
+    ensures runs { IfOk result (StoreRuns D.may_leave D.faults F.was_told first.now (D.bytes disk) (D.faults disk)
         bytes.now bounds.events) }
     ensures fault { IfErr result (RefusesStore D.faults first.now (D.bytes disk) (D.faults disk) bytes.now) }
 {
@@ -59,7 +64,9 @@ pub fn run_stored<D: Disk, G: Gate, R: Threads + Wait + Sync>(
         let_go(system);
         return Err(StoreFault::OtherFiles);
     }
-    run_system(rt, alloc, system, script, files, disk, bounds, gate)
+    run_system(
+        rt, alloc, system, script, files, disk, follower, bounds, gate,
+    )
 }
 
 /// The fault of a deck that was not read.

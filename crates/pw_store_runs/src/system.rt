@@ -1,6 +1,6 @@
 //! The run of a system over a store.
 
-ghost use Rattle.std.specs.Prelude.{◌≡◌, ◌≤◌, All, IfErr, IfOk, length};
+ghost use Rattle.std.specs.Prelude.{◌≡◌, ◌≤◌, [], All, IfErr, IfOk, length};
 ghost use Rattle.pw_code.specs.Limits.{most_fail_lines};
 ghost use Rattle.pw_code.specs.Valid.{IsDeckFile, IsValid};
 ghost use Rattle.pw_code_meaning.specs.OfSystem.{behaviour};
@@ -21,6 +21,7 @@ use pw_code::file::FileInfo;
 use pw_code::system::System;
 use pw_deck_runs::setups::setup_of;
 use pw_event::script::Script;
+use pw_group_commit::follower::Follower;
 use pw_records::laws::{found_laws, record_laws};
 use pw_records::with_records::{with_files, with_records};
 use pw_report::taken::let_go;
@@ -34,25 +35,28 @@ use std::sync::Wait;
 use std::thread::Threads;
 
 /// Runs a system within bounds over the trail on a disk (docs/STORE.md), whose files have the names and keys of the
-/// system's: how the run ended, with its report, and the disk as it left it. The records that the trail leads to take the
+/// system's: how the run ended, with its report, and the disk and
+/// the follower as it left them. The records that the trail leads to take the
 /// place of the system's. It may wait for a thread.
-pub fn run_system<D: Disk, G: Gate, R: Threads + Wait + Sync>(
+pub fn run_system<D: Disk, F: Follower + Send, G: Gate, R: Threads + Wait + Sync>(
     rt: &R,
     alloc: Global,
     system: System,
     script: Script,
     files: List<FileInfo>,
     disk: D,
+    follower: F,
     bounds: RunBounds,
     gate: &G,
-) -> Result<Stored<D>, StoreFault<D>>
+) -> Result<Stored<D, F>, StoreFault<D>>
     requires valid { IsValid system }
     requires behaves { IsBehaviour (behaviour script.lines system) }
     requires lines { All (IsFailNamed system) script.lines }
     requires few { length script.lines ≤ most_fail_lines }
     requires alike { AreAlike files system.files }
     requires files { All IsDeckFile files }
-    ensures runs { IfOk result (RunsOverTrail D.may_leave D.faults files (D.bytes disk) (D.faults disk)
+    requires told { F.was_told follower [] }
+    ensures runs { IfOk result (RunsOverTrail D.may_leave D.faults F.was_told files (D.bytes disk) (D.faults disk)
         script.lines system bounds.events) }
     ensures fault { IfErr result (RefusesTrail D.faults (D.faults disk) files (D.bytes disk)) }
 {
@@ -68,7 +72,9 @@ pub fn run_system<D: Disk, G: Gate, R: Threads + Wait + Sync>(
     match ready {
         Ok((now, trail)) => {
             let setup = setup_of(now, script);
-            let ran = run_kept::<D, Brand, G, R>(rt, alloc, setup, trail, bounds, gate);
+            let ran = run_kept::<D, Brand, F, G, R>(
+                rt, alloc, setup, trail, follower, bounds, gate,
+            );
             match ran {
                 Ok(stored) => Ok(stored),
                 Err(Memory) => Err(StoreFault::Memory),

@@ -55,9 +55,9 @@ returns-in-Ok-ran-clause-runs g c =
     let b =
     subst (λ (fs : List FileInfo). BeginsStored g.D.Disk.bytes g.D.Disk.may_leave fs (g.D.Disk.bytes c.args.disk)
     c.args.system c.in-Ok-ready.now state) own c.in-Ok-ready.ensures.begins in
-    runs-over g.D.Disk.bytes g.D.Disk.may_leave g.D.Disk.settled g.D.Disk.faults c.args.files (g.D.Disk.bytes c.args.disk)
+    runs-over g.D.Disk.bytes g.D.Disk.may_leave g.D.Disk.settled g.D.Disk.faults g.F.Follower.was_told c.args.files (g.D.Disk.bytes c.args.disk)
     (g.D.Disk.faults c.args.disk) c.args.script.lines c.args.system c.in-Ok-ready.now state c.args.bounds.events c.in-Ok-ran.stored
     c.record_laws.ensures.same c.in-Ok-ready.ensures.stays c.in-Ok-ready.ensures.count b
-    (subst (λ (s : SetupState). RunsStored g.D.Disk.may_leave g.D.Disk.faults trail.log.files
+    (subst (λ (s : SetupState). RunsStored g.D.Disk.may_leave g.D.Disk.faults g.F.Follower.was_told trail.log.files
     (those (units_in trail.log.files (g.D.Disk.settled trail.log.disk))) (g.D.Disk.faults trail.log.disk) (behaviour s.script s.system) s.system
     c.args.bounds.events c.in-Ok-ran.stored) c.setup_of-setup.ensures c.in-Ok-ran.ensures)
