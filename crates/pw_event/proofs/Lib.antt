@@ -1,4 +1,5 @@
 mod Complete
+mod DigitByDigit
 mod Digits
 mod Dues
 mod Ends

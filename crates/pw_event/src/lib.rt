@@ -19,3 +19,4 @@ pub mod script;
 pub mod sentence;
 pub mod system_names;
 mod words;
+pub mod writing;

@@ -1,5 +1,3 @@
-pub mod Blank
-pub mod Digits
 pub mod Filed
 pub mod OneLines
 pub mod Printed

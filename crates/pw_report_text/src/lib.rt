@@ -2,11 +2,8 @@
 //! docs/LOG.md has the rules.
 #![tactic(auto)]
 
-mod entries;
 pub mod laws;
 mod lines;
 pub mod listing;
 pub mod numbers;
 mod parts;
-mod rows;
-mod words;

@@ -1,19 +1,37 @@
+//! The lines of the report, straight behind its text. An `Err` of any call may leave a part of a line there.
+
 ghost use Rattle.std.specs.Prelude.{◌≡◌, ◌<◌, ◌++◌, ◌∷◌, [], length, if◌then◌else◌, codes, OnOk};
 ghost use Rattle.std.specs.Fmt.{decimal};
-ghost use Rattle.pw_event.specs.Line.{sentence};
+ghost use Rattle.pw_event.specs.Line.{IsNamed, sentence};
 ghost use Rattle.pw_report_text.specs.Blocks.{IsBlockOf};
-ghost use Rattle.pw_report_text.specs.Lines.{block_line, header, how_text, last_line, line, record_line, refresh_part};
+ghost use Rattle.pw_report_text.specs.Lines.{block_line, entry_line, header, how_text, last_line, line, record_line, refresh_part};
 
-use crate::rows::print_rows;
-use crate::words::{print_last_word, print_number, print_refresh_number, print_word};
 use pw_base::bytes::Bytes;
 use pw_base::memory::Memory;
 use pw_code::lock::LockRule;
 use pw_code::system::System;
+use pw_event::event::Event;
 use pw_event::names::terminal_name;
-use pw_event::printing::print_ending;
+use pw_event::printing::{print_ending, print_event_words};
+use pw_event::writing::{print_number, print_refresh_number, print_word};
 use pw_onecopy::refresh::Refresh;
 use pw_serial_order::block::{Block, How};
+use pw_terminal::printing::print_rows;
+
+/// Puts the line of an entry behind the text: its number in the log, and its words.
+pub fn print_entry(
+    text: &mut Bytes,
+    system: &System,
+    number: usize,
+    entry: &Event,
+) -> Result<(), Memory>
+    requires { IsNamed system.now entry.now }
+    ensures { OnOk result (text.new ≡ text.old ++ entry_line system.now number entry.now) }
+{
+    print_number(text, number as u64)?;
+    print_event_words(text, system, entry)?;
+    text.push(b'\n')
+}
 
 /// Puts the line of a block behind the text.
 pub fn print_block(text: &mut Bytes, system: &System, block: &Block) -> Result<(), Memory>
@@ -33,10 +51,18 @@ pub fn print_block(text: &mut Bytes, system: &System, block: &Block) -> Result<(
         Block::Done(terminal, ending) => {
             print_word(text, b"DONE")?;
             print_word(text, terminal_name(system, terminal))?;
-            let words = print_ending(text.allocator(), system, ending)?;
-            print_last_word(text, words.as_slice())
+            print_ending(text, system, ending)?;
+            text.push(b'\n')
         }
     }
+}
+
+/// Puts the last word of a line and the line's end behind the text.
+fn print_last_word(text: &mut Bytes, word: &[u8]) -> Result<(), Memory>
+    ensures { OnOk result (text.new ≡ text.old ++ line word.now) }
+{
+    text.extend(word)?;
+    text.push(b'\n')
 }
 
 /// Puts the line of an attempt behind the text.
@@ -70,6 +96,7 @@ pub fn print_refresh(text: &mut Bytes, system: &System, refresh: &Refresh) -> Re
     print_word(text, b"SCREEN")?;
     print_word(text, terminal_name(system, refresh.terminal))?;
     print_refresh_number(text, refresh.phase, refresh.attempt, refresh.k)?;
+    text.push(b'\n')?;
     print_rows(text, &refresh.image)
 }
 

@@ -8,8 +8,7 @@ ghost use Rattle.pw_report_text.specs.Numbers.{first_part, is_seen, number_cmp, 
 ghost use Rattle.pw_onecopy.specs.declared.refresh.Refresh.{Refresh as SeenRefresh};
 ghost use Rattle.pw_report_text.specs.Listing.{refreshes_counted_once, files_to, records_in, screens_to};
 
-use crate::entries::print_entry;
-use crate::lines::{print_block, print_file_name, print_record, print_refresh};
+use crate::lines::{print_block, print_entry, print_file_name, print_record, print_refresh};
 use crate::numbers::{ListedRefreshNumber, number_of};
 use pw_base::bytes::Bytes;
 use pw_base::list::List;

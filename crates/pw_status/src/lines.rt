@@ -74,7 +74,11 @@ fn ending_or_running(
     ensures { IfOk result (λ text. text ≡ ending_or_running system.now ending) }
 {
     match ending {
-        Some(ending) => print_ending(alloc, system, ending),
+        Some(ending) => {
+            let mut text = Bytes::new(alloc);
+            print_ending(&mut text, system, ending)?;
+            Ok(text)
+        }
         None => Bytes::from_slice(alloc, b"RUNNING"),
     }
 }

@@ -1,3 +1,4 @@
+pub mod Blank
 pub mod Cells
 pub mod EntryLemmas
 pub mod Examples

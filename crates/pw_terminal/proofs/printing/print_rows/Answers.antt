@@ -1,6 +1,6 @@
 use Rattle.std.proofs.Common.{◌≡◌, ◌+◌, ◌-◌, arith, ◌∙◌, sym}
 use Rattle.pw_terminal.proofs.RowLines.{row_lines-next, row_lines-none}
-use Rattle.pw_terminal.proofs.printing.refresh_text.Goals as goal
+use Rattle.pw_terminal.proofs.printing.print_rows.Goals as goal
 
 pub loop-number-preserved : goal.loop-number-preserved
 loop-number-preserved c = record {
@@ -8,7 +8,7 @@ loop-number-preserved c = record {
   lines =
       let one_less : 25 - (c.loop-number.number + 1) ≡ (25 - c.loop-number.number) - 1 = omega arith in
       let step = row_lines-next (25 - c.loop-number.number) c.loop-number.number c.loop-number.text c.loop-number.rest.now (omega arith) in
-      rw (one_less, c.in_ok-print_row.ensures, c.trim.ensures, c.split_at.ensures.back, c.split_at.ensures.front)
+      rw (one_less, c.in_ok-print_row.ensures, c.split_at.ensures.back, c.split_at.ensures.front)
       (step ∙ c.loop-number.invariant.lines);
 }
 

@@ -1,9 +1,8 @@
-//! Words and numbers of a line. An `Err` of any call may leave a part of what it prints behind the text.
+//! Words and numbers, straight behind a text. An `Err` of any call may leave a part of what it prints there.
 
 ghost use Rattle.std.specs.Prelude.{◌≡◌, ◌++◌, ◌∷◌, [], OnOk};
 ghost use Rattle.std.specs.Fmt.{decimal};
 ghost use Rattle.pw_event.specs.Line.{refresh_number};
-ghost use Rattle.pw_report_text.specs.Lines.{line};
 
 use pw_base::bytes::Bytes;
 use pw_base::memory::Memory;
@@ -16,16 +15,8 @@ pub fn print_word(text: &mut Bytes, word: &[u8]) -> Result<(), Memory>
     text.push(b' ')
 }
 
-/// Puts the last word of a line and the line's end behind the text.
-pub fn print_last_word(text: &mut Bytes, word: &[u8]) -> Result<(), Memory>
-    ensures { OnOk result (text.new ≡ text.old ++ line word.now) }
-{
-    text.extend(word)?;
-    text.push(b'\n')
-}
-
 /// Puts the digits of a number behind the text.
-fn print_digits(text: &mut Bytes, number: u64) -> Result<(), Memory>
+pub fn print_digits(text: &mut Bytes, number: u64) -> Result<(), Memory>
     ensures { OnOk result (text.new ≡ text.old ++ decimal number) }
 {
     if number < 10 {
@@ -43,26 +34,18 @@ pub fn print_number(text: &mut Bytes, number: u64) -> Result<(), Memory>
     text.push(b' ')
 }
 
-/// Puts a number that ends its line, and the line's end, behind the text.
-pub fn print_last_number(text: &mut Bytes, number: u64) -> Result<(), Memory>
-    ensures { OnOk result (text.new ≡ text.old ++ line (decimal number)) }
-{
-    print_digits(text, number)?;
-    text.push(b'\n')
-}
-
-/// Puts a refresh number, `phase.attempt.k`, that ends its line, and the line's end, behind the text.
+/// Puts a refresh number, `phase.attempt.k`, behind the text.
 pub fn print_refresh_number(
     text: &mut Bytes,
     phase: u32,
     attempt: u32,
     k: u32,
 ) -> Result<(), Memory>
-    ensures { OnOk result (text.new ≡ text.old ++ line (refresh_number phase attempt k)) }
+    ensures { OnOk result (text.new ≡ text.old ++ refresh_number phase attempt k) }
 {
     print_digits(text, phase.into())?;
     text.push(b'.')?;
     print_digits(text, attempt.into())?;
     text.push(b'.')?;
-    print_last_number(text, k.into())
+    print_digits(text, k.into())
 }

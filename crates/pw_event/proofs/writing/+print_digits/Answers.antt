@@ -1,6 +1,6 @@
 use Rattle.std.proofs.Common.{arith}
-use Rattle.pw_report_text.proofs.Digits.{last-digit, one-digit}
-use Rattle.pw_report_text.proofs.words.+print_digits.Goals as goal
+use Rattle.pw_event.proofs.DigitByDigit.{last-digit, one-digit}
+use Rattle.pw_event.proofs.writing.+print_digits.Goals as goal
 
 pub returns-then-number-lt10 : goal.returns-then-number-lt10
 returns-then-number-lt10 t c = one-digit c.push.result c.args.text.now c.push.new.self c.args.number c.if-number-lt10.true c.push.ensures.ok

@@ -1,6 +1,6 @@
 use Rattle.std.proofs.Common.{◌≡◌, ◌-◌, ◌*◌, ◌++◌, length}
 use Rattle.pw_terminal.specs.Screen.{refresh_lines, row_lines}
-use Rattle.pw_report_text.proofs.rows.print_rows.Given as goal
+use Rattle.pw_terminal.proofs.printing.print_rows.Given as goal
 
 abbrev pub invariant-loop-number : goal.invariant-loop-number
 invariant-loop-number l = record {

@@ -1,4 +1,4 @@
-use Rattle.pw_report_text.proofs.words.+print_digits.Given as goal
+use Rattle.pw_event.proofs.writing.+print_digits.Given as goal
 
 abbrev pub decreases-print_digits : goal.decreases-print_digits
 decreases-print_digits l = l.number
