@@ -1,7 +1,7 @@
 -- What is kept, where a terminal's program is answered.
-use Rattle.std.proofs.Common.{◌≡◌, ℕ, Bool, true, false, not, List, Option, Some, None, if◌then◌else◌, ◌∙◌, refl, sym, ap}
+use Rattle.std.proofs.Common.{◌≡◌, ℕ, Bool, true, false, not, List, Option, Some, None, if◌then◌else◌, ◌∙◌, refl, subst, sym, ap}
 use Rattle.std.specs.Option.{option_map}
-use Rattle.pw_entry_effects.specs.Can.{CanSend}
+use Rattle.pw_entry_effects.specs.Can.{CanAnswer, CanSend}
 use Rattle.pw_entry_effects.specs.Verbs.{one_send}
 use Rattle.pw_code.specs.declared.context.Context.{Context}
 use Rattle.pw_code.specs.declared.system.System.{System}
@@ -10,7 +10,8 @@ use Rattle.pw_code.specs.declared.verb.Answer.TheVariants as answer
 use Rattle.pw_code.specs.declared.verb.Verb.{Verb}
 use Rattle.pw_code_meaning.specs.Contexts.{PutsAnswer}
 use Rattle.pw_code_meaning.specs.Sound.{IsSoundContext}
-use Rattle.pw_world_store.specs.Calls.{before_verb, kept_commit_reply}
+use Rattle.pw_world_store.specs.Calls.{before_verb}
+use Rattle.pw_world_store.specs.Keeps.{IsChanged, KeepState, kept_in}
 use Rattle.pw_world_state.specs.Asked.{answered_with, unit_in, verb_in}
 use Rattle.pw_world_state.specs.Changes.{at_terminal, free_process, kept_back, kept_commit, kept_send, kept_show, unit_at, with_context, without_unit}
 use Rattle.pw_world_state.specs.Entered.{answer_terminal, answering, entered_back, entered_commit, entered_reply, entered_send, is_outside_at, replies_last, replies_to, reply_by, sent_by, unit_of_ready, verb_of}
@@ -46,37 +47,20 @@ module _ (system : System) (t : ℕ) (a : Answer) (next : Context) (kept : Kept)
   pub show-is : kept_show t next kept ≡ answer_terminal system t a kept
   show-is = ap (put-in kept t kept.disc kept.births) own-is
 
-  -- and its unit ends
-  pub last-is : (disc : Told)
-      → record (at_terminal t (λ own. without_unit (with_context next own)) kept) { disc = disc }
-      ≡ record (at_terminal t (λ own. without_unit (answering system a own)) kept) { disc = disc }
-  last-is disc = ap (λ (own : KeptTerminal). put-in kept t disc kept.births (without_unit own)) own-is
-
-pub commit-is : (system : System) (t n : ℕ) (next : Context) (kept : Kept)
-    → option_map (answered_with system answer.Ended) (kept.terminals t).ready ≡ Some next
-    → kept_commit t n next kept ≡ entered_commit system t n kept
-commit-is system t n next kept e =
-    last-is system t answer.Ended next kept e (after_commit kept.disc (unit_at kept t n) None)
-
-pub back-is : (system : System) (t n : ℕ) (next : Context) (kept : Kept)
-    → option_map (answered_with system answer.Dropped) (kept.terminals t).ready ≡ Some next
-    → kept_back t n next kept ≡ entered_back system t n kept
-back-is system t n next kept e =
-    last-is system t answer.Dropped next kept e (backed_out true kept.disc (unit_at kept t n))
-
 -- ---- in place
+
+-- what is done to a terminal in two steps
+pub at-twice : (t : ℕ) (f g : KeptTerminal → KeptTerminal) (disc : Told) (births : ℕ) (kept : Kept)
+    → at_terminal t g (record (at_terminal t f kept) { disc = disc; births = births })
+    ≡ record (at_terminal t (λ own. g (f own)) kept) { disc = disc; births = births }
+at-twice t f g disc births kept =
+    ap (λ (terminals : ℕ → KeptTerminal). record kept { terminals = terminals; disc = disc; births = births })
+    (upd-twice kept.terminals t (f (kept.terminals t)) _
+    ∙ ap (λ (own : KeptTerminal). upd kept.terminals t (g own)) (upd-same kept.terminals t (f (kept.terminals t)) t refl))
 
 -- the context with which a terminal stood at its verb
 pub own-context : (left ready : Option Context) (own context : Context) → left ≡ ready → ready ≡ Some own → left ≡ Some context → own ≡ context
 own-context left ready own context is at stood = cc
-
--- a terminal that has left its verb goes on as from there
-left-answered : (t : ℕ) (next : Context) (kept : Kept) → kept_show t next (at_terminal t before_verb kept) ≡ kept_show t next kept
-left-answered t next kept =
-    ap (λ (own : KeptTerminal). record kept { terminals = upd (upd kept.terminals t (before_verb (kept.terminals t))) t (with_context next own) })
-    (upd-same kept.terminals t (before_verb (kept.terminals t)) t refl)
-    ∙ ap (λ (terminals : ℕ → KeptTerminal). record kept { terminals = terminals })
-    (upd-twice kept.terminals t (before_verb (kept.terminals t)) (with_context next (kept.terminals t)))
 
 -- it goes on with the context that the answer makes of the one with which it left
 pub gone-behind : (system : System) (t : ℕ) (a : Answer) (old next : Context) (kept left new : Kept) → IsSoundContext system old
@@ -85,9 +69,44 @@ pub gone-behind : (system : System) (t : ℕ) (a : Answer) (old next : Context) 
 gone-behind system t a old next kept left new sound ready puts leaves goes =
     goes
     ∙ (ap (kept_show t next) leaves
-    ∙ (left-answered t next kept
+    ∙ (at-twice t before_verb (with_context next) kept.disc kept.births kept
     ∙ show-is system t a next kept
     (ap (option_map (answered_with system a)) ready ∙ ap (λ (c : Context). Some c) (sym (takes-is system a old next sound puts)))))
+
+-- ---- behind a call
+
+-- a call has changed a terminal, which stands at its verb still
+pub can-still : {D : Type 0} (told : D → Told) (t : ℕ) (change : KeptTerminal → KeptTerminal) (disc : Kept → Told) (births : Kept → ℕ) (old left : KeepState D)
+    → ((own : KeptTerminal) → (change own).ready ≡ own.ready)
+    → IsChanged told (λ kept. record (at_terminal t change kept) { disc = disc kept; births = births kept }) old left
+    → CanAnswer old.system (kept_in told old) t → CanAnswer left.system (kept_in told left) t
+can-still told t change disc births old left same called can =
+    let kept : Kept = kept_in told old in
+    subst (λ (s : System). CanAnswer s (kept_in told left) t) (sym called.system)
+    (record {
+      placed = can.placed;
+      context = can.context;
+      ready =
+          ap (λ (k : Kept). (k.terminals t).ready) called.kept
+          ∙ (ap (λ (own : KeptTerminal). own.ready) (upd-same kept.terminals t (change (kept.terminals t)) t refl) ∙ (same (kept.terminals t) ∙ can.ready));
+      sound = can.sound;
+      room = can.room;
+    })
+
+-- and goes on behind the answer
+pub goes-behind : {D : Type 0} (told : D → Told) (t : ℕ) (a : Answer) (change : KeptTerminal → KeptTerminal) (disc : Kept → Told) (births : Kept → ℕ) (old left new : KeepState D)
+    → IsChanged told (λ kept. record (at_terminal t change kept) { disc = disc kept; births = births kept }) old left
+    → IsChanged told (answer_terminal left.system t a) left new
+    → IsChanged told (λ kept. record (at_terminal t (λ own. answering old.system a (change own)) kept) { disc = disc kept; births = births kept }) old new
+goes-behind told t a change disc births old left new called goes =
+    let kept : Kept = kept_in told old in
+    record {
+      system = goes.system ∙ called.system;
+      kept =
+          goes.kept
+          ∙ (ap (λ (s : System). answer_terminal s t a (kept_in told left)) called.system
+          ∙ (ap (answer_terminal old.system t a) called.kept ∙ at-twice t change (answering old.system a) (disc kept) (births kept) kept));
+    }
 
 -- ---- SEND
 
@@ -100,20 +119,6 @@ sent-is system t n c kept can message is =
     ∙ sym (ap (λ (o : Option Context). sent_by (option_map (verb_in system) o)) can.can.ready)))
 
 -- ---- REPLY
-
--- the program goes on, and the process is free
-pub go-on-is : (system : System) (c i t : ℕ) (a : Answer) (next : Context) (kept : Kept)
-    → option_map (answered_with system a) (kept.terminals t).ready ≡ Some next
-    → free_process c i (kept_show t next kept) ≡ answer_terminal system t a (free_process c i kept)
-go-on-is system c i t a next kept e = ap (free_process c i) (show-is system t a next kept e)
-
--- a unit of one SEND ends with its reply, and the process is free
-pub end-send-is : (system : System) (c i t n : ℕ) (reply : List ℕ) (next : Context) (kept : Kept)
-    → option_map (answered_with system (answer.Replied reply)) (kept.terminals t).ready ≡ Some next
-    → free_process c i (kept_commit_reply t n reply next kept) ≡ replies_last system c i t n reply kept
-end-send-is system c i t n reply next kept e =
-    ap (free_process c i)
-    (last-is system t (answer.Replied reply) next kept e (after_commit kept.disc (unit_at kept t n) (Some reply)))
 
 -- which of the two a reply is: outside a transaction it ends the unit
 last-by : (last : ℕ → Kept) (on : Kept) (inside : Bool) (u n : ℕ)

@@ -10,7 +10,7 @@ ghost use Rattle.pw_world_state.specs.Changes.{free_process, unit_at};
 ghost use Rattle.pw_world_state.specs.Entered.{answer_terminal, entered_file, entered_reply, entered_take, replies_last, reply_by, started_on};
 ghost use Rattle.pw_tmf.specs.Units.{IsRunning};
 
-use crate::verbs::{behind, go_behind};
+use crate::verbs::go_behind;
 use pw_base::bytes::Bytes;
 use pw_base::memory::Memory;
 use pw_code::context::Context;
@@ -161,8 +161,8 @@ fn end_send<D: Disc>(
     ensures err { IfErr result (λ fault. IsRefused D.told fault keep.old keep.new) }
 {
     let kept = reply.copy(reply.allocator())?;
-    let next = behind(keep, terminal, Answer::Replied(reply))?;
-    keep.commit_reply(terminal, unit, kept, next)?;
+    keep.commit(terminal, unit, Some(kept))?;
+    go_behind(keep, terminal, Answer::Replied(reply));
     keep.free(class, process);
     Ok(())
 }

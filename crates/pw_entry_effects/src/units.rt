@@ -3,10 +3,12 @@
 ghost use Rattle.std.specs.Prelude.{◌≡◌, ◌<◌, IfErr, IfOk, OnOk, Some, length};
 ghost use Rattle.pw_entry_effects.specs.Can.{CanBack, CanBeginAt, CanCommit};
 ghost use Rattle.pw_code.specs.Valid.{IsValid};
+ghost use Rattle.pw_code.specs.declared.verb.Answer.TheVariants as answer;
 ghost use Rattle.pw_world_store.specs.Keeps.{IsChanged, IsRefused, kept_in};
-ghost use Rattle.pw_world_state.specs.Entered.{entered_back, entered_begin, entered_commit};
+ghost use Rattle.pw_world_state.specs.Changes.{attempted, with_attempt};
+ghost use Rattle.pw_world_state.specs.Entered.{answering, entered_back, entered_begin, entered_commit};
 
-use crate::verbs::{begins, behind};
+use crate::verbs::{begins, go_behind};
 use pw_base::memory::Memory;
 use pw_code::context::Context;
 use pw_code::verb::Answer;
@@ -25,6 +27,26 @@ fn start_of<D: Disc>(keep: &Keep<D>, terminal: u32, unit: u32) -> Result<Context
     }
 }
 
+/// BEGIN of a transaction: an attempt of the unit runs from this start, and the program goes on behind Begin.
+fn begin_transaction<D: Disc>(
+    keep: &mut Keep<D>,
+    terminal: u32,
+    unit: u32,
+    restarts: u32,
+    start: Context,
+) -> Result<(), DiscFault>
+    requires valid { IsValid keep.old.system }
+    requires can { CanBeginAt keep.old.system (kept_in D.told keep.old) terminal unit }
+    requires start { ((kept_in D.told keep.old).terminals terminal).context ≡ Some start }
+    ensures ok { OnOk result (IsChanged D.told
+        (with_attempt terminal unit (λ own. answering keep.old.system (answer.Begun restarts) (attempted own))) keep.old keep.new) }
+    ensures err { IfErr result (λ fault. IsRefused D.told fault keep.old keep.new) }
+{
+    keep.begin_send(terminal, unit, start)?;
+    go_behind(keep, terminal, Answer::Begun(restarts));
+    Ok(())
+}
+
 /// BEGIN: an attempt of the unit runs.
 pub fn begin<D: Disc>(
     keep: &mut Keep<D>,
@@ -39,8 +61,7 @@ pub fn begin<D: Disc>(
 {
     let start = start_of(keep, terminal, unit)?;
     if begins(keep, terminal) {
-        let next = behind(keep, terminal, Answer::Begun(restarts))?;
-        keep.begin(terminal, unit, start, next)
+        begin_transaction(keep, terminal, unit, restarts, start)
     } else {
         keep.begin_send(terminal, unit, start)
     }
@@ -53,8 +74,9 @@ pub fn commit<D: Disc>(keep: &mut Keep<D>, terminal: u32, unit: u32) -> Result<(
     ensures ok { OnOk result (IsChanged D.told (entered_commit keep.old.system terminal unit) keep.old keep.new) }
     ensures err { IfErr result (λ fault. IsRefused D.told fault keep.old keep.new) }
 {
-    let next = behind(keep, terminal, Answer::Ended)?;
-    keep.commit(terminal, unit, next)
+    keep.commit(terminal, unit, None)?;
+    go_behind(keep, terminal, Answer::Ended);
+    Ok(())
 }
 
 /// BACK: the unit is backed out and ends.
@@ -64,6 +86,7 @@ pub fn back<D: Disc>(keep: &mut Keep<D>, terminal: u32, unit: u32) -> Result<(),
     ensures ok { OnOk result (IsChanged D.told (entered_back keep.old.system terminal unit) keep.old keep.new) }
     ensures err { IfErr result (λ fault. IsRefused D.told fault keep.old keep.new) }
 {
-    let next = behind(keep, terminal, Answer::Dropped)?;
-    keep.back(terminal, unit, next)
+    keep.back(terminal, unit)?;
+    go_behind(keep, terminal, Answer::Dropped);
+    Ok(())
 }

@@ -42,19 +42,6 @@ pub fn answered(system: &System, context: &Context, answer: Answer) -> Result<Co
     Ok(next)
 }
 
-/// The context of a terminal's program, behind the answer to its verb.
-pub fn behind<D: Disc>(keep: &Keep<D>, terminal: u32, answer: Answer) -> Result<Context, Memory>
-    requires valid { IsValid keep.now.system }
-    requires can { CanAnswer keep.now.system (kept_in D.told keep.now) terminal }
-    ensures { IfOk result (λ next.
-        option_map (answered_with keep.now.system answer) ((kept_in D.told keep.now).terminals terminal).ready ≡ Some next) }
-{
-    match &keep.seat(terminal).ready {
-        Some(at) => answered(keep.system(), &at.context, answer),
-        None => unreachable!(),
-    }
-}
-
 /// A terminal's program goes on behind the answer to its verb. It takes no memory.
 pub fn go_behind<D: Disc>(keep: &mut Keep<D>, terminal: u32, answer: Answer)
     requires valid { IsValid keep.old.system }

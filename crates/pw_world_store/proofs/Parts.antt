@@ -14,7 +14,7 @@ use Rattle.pw_world_store.specs.Jobs.{context_of}
 use Rattle.pw_world_store.specs.Seats.{seat_answered, seat_unit_over, started}
 use Rattle.pw_world_store.specs.declared.job.ProcessJob.{ProcessJob}
 use Rattle.pw_world_store.specs.declared.seat.Seat.{Seat}
-use Rattle.pw_world_state.specs.Changes.{at_terminal, attempted, kept_begin, kept_begin_send, kept_show, with_context}
+use Rattle.pw_world_state.specs.Changes.{at_terminal, attempted}
 use Rattle.pw_world_state.specs.Kept.{Kept, KeptTerminal}
 use Rattle.pw_onecopy.specs.Update.{upd}
 use Rattle.pw_onecopy.proofs.Update.{upd-other, upd-same, upd_elim}
@@ -140,14 +140,14 @@ ended-own disc unit reply t is = upd-same disc.units unit.terminal None t (sym i
 
 -- each part is right where the unit of a terminal has ended
 pub keep-ended : (system : System) (seats : List Seat) (disc undone new_disc : Told) (book : List Queue) (jobs : List (List (Option ProcessJob))) (pairs : List SeenPair)
-    (t : ℕ) (unit : Unit) (reply : Option (List ℕ)) (commits : ℕ) (next : Context) (seat new : Seat)
-    → IsKeep system seats disc book jobs pairs → t < length seats → unit.terminal ≡ t → new ≡ seat_unit_over (seat_answered next seat)
+    (t : ℕ) (unit : Unit) (reply : Option (List ℕ)) (commits : ℕ) (seat new : Seat)
+    → IsKeep system seats disc book jobs pairs → t < length seats → unit.terminal ≡ t → seat ≡ slice_index_or seats t seat → new ≡ seat_unit_over seat
     → undone.terminals ≡ disc.terminals → undone.file_count ≡ disc.file_count → undone.units ≡ disc.units
     → new_disc ≡ record (ended undone unit reply) { commits = commits }
     → IsKeep system (slice_set seats t new) new_disc book jobs pairs
-keep-ended system seats disc undone new_disc book jobs pairs t unit reply commits next seat new old lt own made terminals files units is =
+keep-ended system seats disc undone new_disc book jobs pairs t unit reply commits seat new old lt own at made terminals files units is =
     keep-seat system seats disc new_disc book jobs pairs t new old lt
-    (subst (HasVerb system) (sym made) tt)
+    (subst (HasVerb system) (sym made) (subst (HasVerb system) (seat-is seats t seat lt at) (old.verbs t)))
     (ap (λ (d : Told). d.terminals) is ∙ terminals)
     (ap (λ (d : Told). d.file_count) is ∙ files)
     (λ u ne. ap (λ (d : Told). d.units u) is ∙ (ended-other undone unit reply t u own ne ∙ ap (λ (f : ℕ → Option ToldUnit). f u) units))
@@ -185,7 +185,7 @@ started-at seats t unit start seat new lt is made here =
     ∙ (ap (λ s. kept_of (started unit start s)) (sym (seat-is seats t seat lt is))
     ∙ ap (λ (o : Option Context). record (kept_of (seat_at seats t)) { start = o }) (sym here))
 
--- ---- one call behind another
+-- ---- two changes
 
 -- of two changes at one place the last stays
 pub upd-twice : {A : Type 0} (f : ℕ → A) (k : ℕ) (a b : A) → upd (upd f k a) k b ≡ upd f k b
@@ -193,10 +193,3 @@ upd-twice f k a b = fun_ext (λ j.
     upd_elim (upd f k a) k b j (λ y. y ≡ upd f k b j)
     (λ is. sym (upd-same f k b j is))
     (λ ne. upd-other f k a j ne ∙ sym (upd-other f k b j ne)))
-
--- a terminal begins and goes on
-pub begun-on : (t n : ℕ) (next : Context) (kept : Kept) → kept_show t next (kept_begin_send t n kept) ≡ kept_begin t n next kept
-begun-on t n next kept =
-    ap (λ (terminals : ℕ → KeptTerminal). record (kept_begin_send t n kept) { terminals = terminals })
-    (upd-twice kept.terminals t (attempted (kept.terminals t)) _
-    ∙ ap (λ own. upd kept.terminals t (with_context next own)) (upd-same kept.terminals t (attempted (kept.terminals t)) t refl))

@@ -10,14 +10,14 @@ use Rattle.pw_code.specs.declared.file.FileCall.{FileCall}
 use Rattle.pw_code.specs.declared.verb.Verb.{Verb}
 use Rattle.pw_code.specs.declared.verb.Verb.TheVariants as verb
 use Rattle.pw_world_store.specs.Keeps.{KeepState, job_of, jobs_at, kept_in, terminals_in}
-use Rattle.pw_world_state.specs.Changes.{at_terminal, cancel, unit_at, with_context, without_unit}
+use Rattle.pw_world_state.specs.Changes.{at_terminal, cancel, unit_at, without_unit}
 use Rattle.pw_event.specs.declared.event.Cause.{Cause}
 use Rattle.pw_world_state.specs.Kept.{Kept, KeptTerminal}
 use Rattle.pw_world_store.specs.declared.job.ProcessJob.{ProcessJob}
 use Rattle.pw_tmf.specs.Answers.{Operates}
 use Rattle.pw_tmf.specs.Operation.{IsCall}
 use Rattle.pw_tmf.specs.Told.{Told}
-use Rattle.pw_tmf.specs.Units.{IsRunning, after_commit}
+use Rattle.pw_tmf.specs.Units.{IsRunning, after_commit, backed_out}
 use Rattle.pw_tmf.specs.declared.answer.FileAnswer.{FileAnswer}
 
 -- a request waits and a process is free
@@ -53,12 +53,15 @@ given_to (Some process) (Some request) = Some (process, request.terminal)
 abbrev pub before_verb : KeptTerminal → KeptTerminal
 before_verb terminal = record terminal { ready = None }
 
--- a unit of one SEND ends with its reply, where its process is free already
-abbrev pub kept_commit_reply : ℕ → ℕ → List ℕ → Context → Kept → Kept
-kept_commit_reply t n reply new kept =
-    record (at_terminal t (λ own. without_unit (with_context new own)) kept) {
-      disc = after_commit kept.disc (unit_at kept t n) (Some reply);
-    }
+-- a unit ends with its changes, one SEND with its reply, and its program stands where it stood
+abbrev pub kept_committed : ℕ → ℕ → Option (List ℕ) → Kept → Kept
+kept_committed t n reply kept =
+    record (at_terminal t without_unit kept) { disc = after_commit kept.disc (unit_at kept t n) reply }
+
+-- a unit is backed out and ends, and its program stands where it stood
+abbrev pub kept_backed_out : ℕ → ℕ → Kept → Kept
+kept_backed_out t n kept =
+    record (at_terminal t without_unit kept) { disc = backed_out true kept.disc (unit_at kept t n) }
 
 -- ---- FILE
 

@@ -2,10 +2,10 @@
 
 ghost use Rattle.std.specs.Prelude.{◌≡◌, ◌==◌, ◌<◌, ◌^◌, ◌-◌, All, IfErr, IfOk, OnOk, Some, length, true};
 ghost use Rattle.std.specs.List.{IsDistinct};
-ghost use Rattle.pw_world_store.specs.Calls.{kept_commit_reply};
+ghost use Rattle.pw_world_store.specs.Calls.{kept_backed_out, kept_committed};
 ghost use Rattle.pw_world_store.specs.Each.{without_units};
 ghost use Rattle.pw_world_store.specs.Keeps.{IsChanged, IsRefused, kept_in};
-ghost use Rattle.pw_world_state.specs.Changes.{kept_back, kept_begin, kept_begin_send, kept_commit, kept_restart, leave, unit_at};
+ghost use Rattle.pw_world_state.specs.Changes.{kept_begin_send, kept_restart, leave, unit_at};
 ghost use Rattle.pw_tmf.specs.Leaving.{open_units};
 ghost use Rattle.pw_tmf.specs.Units.{CanBackOut, CanBegin, IsRunning};
 
@@ -44,75 +44,35 @@ impl<D: Disc> Keep<D> {
         Ok(())
     }
 
-    /// BEGIN of a transaction: the same, and the program goes on with a context behind Begin.
-    pub fn begin(
+    /// COMMIT, and REPLY of one SEND: the unit ends with its changes, one SEND with its kept reply. The program stands
+    /// where it stood.
+    pub fn commit(
         &mut self,
         terminal: u32,
         number: u32,
-        start: Context,
-        next: Context,
+        reply: Option<Bytes>,
     ) -> Result<(), DiscFault>
         requires known { terminal < length self.old.system.terminals }
-        requires start { ((kept_in D.told self.old).terminals terminal).context ≡ Some start }
-        requires may { CanBegin (kept_in D.told self.old).disc (unit_at (kept_in D.told self.old) terminal number) }
-        requires births { self.old.births < 2 ^ 64 - 1 }
-        ensures ok { OnOk result (IsChanged D.told (kept_begin terminal number next) self.old self.new) }
-        ensures err { IfErr result (λ fault. IsRefused D.told fault self.old self.new) }
-    {
-        self.begin_send(terminal, number, start)?;
-        self.answer(terminal, next);
-        Ok(())
-    }
-
-    /// COMMIT: the unit ends with its changes, and the program goes on with a context behind End.
-    pub fn commit(&mut self, terminal: u32, number: u32, next: Context) -> Result<(), DiscFault>
-        requires known { terminal < length self.old.system.terminals }
         requires runs { IsRunning (kept_in D.told self.old).disc (unit_at (kept_in D.told self.old) terminal number) }
-        ensures ok { OnOk result (IsChanged D.told (kept_commit terminal number next) self.old self.new) }
+        ensures ok { OnOk result (IsChanged D.told (kept_committed terminal number reply) self.old self.new) }
         ensures err { IfErr result (λ fault. IsRefused D.told fault self.old self.new) }
     {
         let unit = self.unit_at(terminal, number);
-        self.disc.commit(&unit, None)?;
-        let seat = &mut self.seats[terminal as usize];
-        seat.answer(next);
-        seat.end_unit();
+        self.disc.commit(&unit, reply)?;
+        self.seats[terminal as usize].end_unit();
         Ok(())
     }
 
-    /// BACK: the unit is backed out and ends, and the program goes on with a context behind Drop.
-    pub fn back(&mut self, terminal: u32, number: u32, next: Context) -> Result<(), DiscFault>
+    /// BACK: the unit is backed out and ends. The program stands where it stood.
+    pub fn back(&mut self, terminal: u32, number: u32) -> Result<(), DiscFault>
         requires known { terminal < length self.old.system.terminals }
         requires may { CanBackOut true (kept_in D.told self.old).disc (unit_at (kept_in D.told self.old) terminal number) }
-        ensures ok { OnOk result (IsChanged D.told (kept_back terminal number next) self.old self.new) }
+        ensures ok { OnOk result (IsChanged D.told (kept_backed_out terminal number) self.old self.new) }
         ensures err { IfErr result (λ fault. IsRefused D.told fault self.old self.new) }
     {
         let units = [self.unit_at(terminal, number)];
         self.disc.back_out(&units, true)?;
-        let seat = &mut self.seats[terminal as usize];
-        seat.answer(next);
-        seat.end_unit();
-        Ok(())
-    }
-
-    /// REPLY of one SEND, behind `free`: the unit ends with its changes and its kept reply, and the
-    /// program goes on with a context behind Replied.
-    pub fn commit_reply(
-        &mut self,
-        terminal: u32,
-        number: u32,
-        reply: Bytes,
-        next: Context,
-    ) -> Result<(), DiscFault>
-        requires known { terminal < length self.old.system.terminals }
-        requires runs { IsRunning (kept_in D.told self.old).disc (unit_at (kept_in D.told self.old) terminal number) }
-        ensures ok { OnOk result (IsChanged D.told (kept_commit_reply terminal number reply next) self.old self.new) }
-        ensures err { IfErr result (λ fault. IsRefused D.told fault self.old self.new) }
-    {
-        let unit = self.unit_at(terminal, number);
-        self.disc.commit(&unit, Some(reply))?;
-        let seat = &mut self.seats[terminal as usize];
-        seat.answer(next);
-        seat.end_unit();
+        self.seats[terminal as usize].end_unit();
         Ok(())
     }
 

@@ -1,15 +1,27 @@
-use Rattle.pw_base.proofs.Plain.{on-ok}
-use Rattle.pw_world_store.specs.Keeps.{kept_in}
-use Rattle.pw_world_state.specs.Changes.{kept_commit}
-use Rattle.pw_world_state.specs.Entered.{entered_commit}
-use Rattle.pw_entry_effects.proofs.Answering.{commit-is}
-use Rattle.pw_entry_effects.proofs.Changing.{changed-alike}
+use Rattle.std.proofs.Common.{refl, subst, sym}
+use Rattle.std.specs.Prelude.{ℕ, None, true}
+use Rattle.pw_code.specs.Valid.{IsValid}
+use Rattle.pw_code.specs.declared.verb.Answer.TheVariants as answer
+use Rattle.pw_world_state.specs.Changes.{without_unit, unit_at}
+use Rattle.pw_world_state.specs.Kept.{Kept}
+use Rattle.pw_tmf.specs.Told.{Told}
+use Rattle.pw_tmf.specs.Units.{after_commit}
+use Rattle.pw_entry_effects.proofs.Answering.{can-still, goes-behind}
 use Rattle.pw_entry_effects.proofs.units.commit.Goals as goal
+
+-- what the disc tells behind the call
+abbrev told-behind : ℕ → ℕ → Kept → Told
+told-behind t n kept = after_commit kept.disc (unit_at kept t n) None
+
+pub go_behind-requires-clause-valid : goal.go_behind-requires-clause-valid
+go_behind-requires-clause-valid g c = subst IsValid (sym c.in_ok-commit.ensures.ok.system) c.requires.valid
+
+pub go_behind-requires-clause-can : goal.go_behind-requires-clause-can
+go_behind-requires-clause-can g c =
+    can-still g.D.Disc.told c.args.terminal without_unit (told-behind c.args.terminal c.args.unit) (λ kept. kept.births) c.args.keep.now c.commit.new.self
+    (λ own. refl) c.in_ok-commit.ensures.ok c.requires.can.can
 
 pub returns-clause-ok : goal.returns-clause-ok
 returns-clause-ok g c =
-    let system = c.args.keep.now.system in
-    on-ok c.commit.result c.commit.ensures.ok
-    (changed-alike g.D.Disc.told (kept_commit c.args.terminal c.args.unit c.in_ok-next.next)
-    (entered_commit system c.args.terminal c.args.unit) c.args.keep.now c.commit.new.self
-    (commit-is system c.args.terminal c.args.unit c.in_ok-next.next (kept_in g.D.Disc.told c.args.keep.now) c.in_ok-next.ensures))
+    goes-behind g.D.Disc.told c.args.terminal answer.Ended without_unit (told-behind c.args.terminal c.args.unit) (λ kept. kept.births) c.args.keep.now c.commit.new.self c.go_behind.new.keep
+    c.in_ok-commit.ensures.ok c.go_behind.ensures
