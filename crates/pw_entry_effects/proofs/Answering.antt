@@ -13,15 +13,14 @@ use Rattle.pw_code_meaning.specs.Sound.{IsSoundContext}
 use Rattle.pw_world_store.specs.Calls.{before_verb}
 use Rattle.pw_world_store.specs.Keeps.{IsChanged, KeepState, kept_in}
 use Rattle.pw_world_state.specs.Asked.{answered_with, unit_in, verb_in}
-use Rattle.pw_world_state.specs.Changes.{at_terminal, free_process, kept_back, kept_commit, kept_send, kept_show, unit_at, with_context, without_unit}
-use Rattle.pw_world_state.specs.Entered.{answer_terminal, answering, entered_back, entered_commit, entered_reply, entered_send, is_outside_at, replies_last, replies_to, reply_by, sent_by, unit_of_ready, verb_of}
+use Rattle.pw_world_state.specs.Changes.{at_terminal, kept_send, kept_show, with_context}
+use Rattle.pw_world_state.specs.Entered.{answer_terminal, answering, entered_reply, entered_send, is_outside_at, replies_last, replies_to, reply_by, sent_by, unit_of_ready}
 use Rattle.pw_world_state.specs.Kept.{Kept, KeptTerminal}
 use Rattle.pw_world_state.proofs.Behind.{takes-one}
 use Rattle.pw_onecopy.specs.Update.{upd}
 use Rattle.pw_onecopy.proofs.Update.{upd-same}
 use Rattle.pw_world_store.proofs.Parts.{upd-twice}
 use Rattle.pw_tmf.specs.Told.{Told}
-use Rattle.pw_tmf.specs.Units.{after_commit, backed_out}
 
 -- an answer that was put into a sound context
 pub takes-is : (system : System) (a : Answer) (old new : Context) → IsSoundContext system old

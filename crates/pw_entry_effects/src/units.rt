@@ -1,6 +1,6 @@
 //! BEGIN, COMMIT and BACK: the units of a terminal.
 
-ghost use Rattle.std.specs.Prelude.{◌≡◌, ◌<◌, IfErr, IfOk, OnOk, Some, length};
+ghost use Rattle.std.specs.Prelude.{◌≡◌, ◌<◌, IfErr, IfOk, OnOk, Some};
 ghost use Rattle.pw_entry_effects.specs.Can.{CanBack, CanBeginAt, CanCommit};
 ghost use Rattle.pw_code.specs.Valid.{IsValid};
 ghost use Rattle.pw_code.specs.declared.verb.Answer.TheVariants as answer;

@@ -1,7 +1,6 @@
 //! Programs that stand at their verbs, and what they are answered.
 
-ghost use Rattle.std.specs.Prelude.{◌≡◌, ◌<◌, IfOk, Some, length, slice_get};
-ghost use Rattle.std.specs.Option.{option_map};
+ghost use Rattle.std.specs.Prelude.{◌≡◌, ◌<◌, IfOk, Some, length};
 ghost use Rattle.pw_entry_effects.specs.Can.{CanAnswer};
 ghost use Rattle.pw_entry_effects.specs.Verbs.{begins};
 ghost use Rattle.pw_code.specs.Valid.{IsValid};

@@ -11,7 +11,7 @@ use Rattle.pw_code.specs.declared.system.System.{System}
 use Rattle.pw_code.specs.declared.unit.Unit.{Unit}
 use Rattle.pw_world_store.specs.Keeps.{HasVerb, IsChanged, IsKeep, KeepState, is_run, job_of, jobs_at, kept_by, kept_in, kept_of, no_seat, pair_at, seat_at}
 use Rattle.pw_world_store.specs.Jobs.{context_of}
-use Rattle.pw_world_store.specs.Seats.{seat_answered, seat_unit_over, started}
+use Rattle.pw_world_store.specs.Seats.{seat_unit_over, started}
 use Rattle.pw_world_store.specs.declared.job.ProcessJob.{ProcessJob}
 use Rattle.pw_world_store.specs.declared.seat.Seat.{Seat}
 use Rattle.pw_world_state.specs.Changes.{at_terminal, attempted}

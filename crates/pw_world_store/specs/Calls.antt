@@ -5,7 +5,6 @@ use Rattle.pw_class.specs.Queue.{Queue, at_process, taken}
 use Rattle.pw_class.specs.declared.request.Request.{Request}
 use Rattle.pw_class.specs.declared.request.Taken.{Taken}
 use Rattle.pw_class.specs.declared.request.Taken.TheVariants.{Got}
-use Rattle.pw_code.specs.declared.context.Context.{Context}
 use Rattle.pw_code.specs.declared.file.FileCall.{FileCall}
 use Rattle.pw_code.specs.declared.verb.Verb.{Verb}
 use Rattle.pw_code.specs.declared.verb.Verb.TheVariants as verb

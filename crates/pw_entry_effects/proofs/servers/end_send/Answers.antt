@@ -17,10 +17,10 @@ abbrev told-behind : ℕ → ℕ → List ℕ → Kept → Told
 told-behind t n reply kept = after_commit kept.disc (unit_at kept t n) (Some reply)
 
 pub go_behind-requires-clause-valid : goal.go_behind-requires-clause-valid
-go_behind-requires-clause-valid g c = subst IsValid (sym c.in_ok-commit.ensures.ok.system) c.requires.valid
+go_behind-requires-clause-valid g c κs within = subst IsValid (sym c.in_ok-commit.ensures.ok.system) c.requires.valid
 
 pub go_behind-requires-clause-can : goal.go_behind-requires-clause-can
-go_behind-requires-clause-can g c =
+go_behind-requires-clause-can g c κs within =
     can-still g.D.Disc.told c.args.terminal without_unit (told-behind c.args.terminal c.args.unit c.in_ok-kept.kept) (λ kept. kept.births) c.args.keep.now c.commit.new.self
     (λ own. refl) c.in_ok-commit.ensures.ok c.requires.can
 
