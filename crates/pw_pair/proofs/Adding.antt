@@ -11,7 +11,7 @@ use Rattle.std.specs.Map.{lookup}
 use Rattle.std.specs.List.{count_by, list_all}
 use Rattle.std.specs.Ordering.{nat_cmp}
 use Rattle.pw_pair.specs.Places.{ArePlaces, AreSeats, terminals_of}
-use Rattle.pw_pair.specs.Seats.{is_lacking, is_sound, new_seat}
+use Rattle.pw_pair.specs.Seats.{is_lacking, is_sound, is_waiting, new_seat}
 use Rattle.pw_pair.specs.declared.seat.BackupSeat.{BackupSeat}
 
 -- a key is at another exactly where the two are one
@@ -79,14 +79,14 @@ added-places old new terminals t are none updates = record {
         (omega (arith, length-append terminals (t ∷ [])), get_or_append_left terminals (t ∷ []) 0 k lt ∙ h.1)
 
 -- seats with one more
-pub added : (seats new : List BackupSeat) (old map' : BTreeMap ℕ ℕ) (lacking t place : ℕ) → AreSeats seats old lacking → get nat_cmp old t ≡ None → place ≡ length seats
+pub added : (seats new : List BackupSeat) (old map' : BTreeMap ℕ ℕ) (lacking waiting t place : ℕ) → AreSeats seats old lacking waiting → get nat_cmp old t ≡ None → place ≡ length seats
     → ((q : ℕ) → get nat_cmp map' q ≡ cond (is_at (nat_cmp t) q) (Some place) (get nat_cmp old q)) → new ≡ seats ++ new_seat t ∷ []
-    → AreSeats new map' (lacking + 1)
-added seats new old map' lacking t place are none at updates e =
+    → AreSeats new map' (lacking + 1) waiting
+added seats new old map' lacking waiting t place are none at updates e =
     let terminals : List ℕ = terminals_of seats in
     let own : (q : ℕ) → get nat_cmp map' q ≡ cond (is_at (nat_cmp t) q) (Some (length terminals)) (get nat_cmp old q) =
     λ q. updates q ∙ ap (λ n. cond (is_at (nat_cmp t) q) (Some n) (get nat_cmp old q)) (at ∙ sym (length-map seats (λ seat. seat.terminal))) in
-    let all : AreSeats (seats ++ new_seat t ∷ []) map' (lacking + 1) = record {
+    let all : AreSeats (seats ++ new_seat t ∷ []) map' (lacking + 1) waiting = record {
       places_are =
           let P : List ℕ → Type 0 = λ ts. ArePlaces map' ts in
           subst P (sym (map-append (λ seat. seat.terminal) seats (new_seat t ∷ []))) (added-places old map' terminals t are.places_are none own);
@@ -94,6 +94,9 @@ added seats new old map' lacking t place are none at updates e =
       lacks =
           let c = are.lacks in
           omega (arith, sum_by-append (λ seat. cond (is_lacking seat) 1 0) seats (new_seat t ∷ []), sum_by-cons (λ seat. cond (is_lacking seat) 1 0) (new_seat t) []);
+      waits =
+          let c = are.waits in
+          omega (arith, sum_by-append (λ seat. cond (is_waiting seat) 1 0) seats (new_seat t ∷ []), sum_by-cons (λ seat. cond (is_waiting seat) 1 0) (new_seat t) []);
     } in
-    let Q : List BackupSeat → Type 0 = λ l. AreSeats l map' (lacking + 1) in
+    let Q : List BackupSeat → Type 0 = λ l. AreSeats l map' (lacking + 1) waiting in
     subst Q (sym e) all

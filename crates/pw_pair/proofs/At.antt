@@ -10,7 +10,7 @@ use Rattle.std.specs.Ordering.{nat_cmp}
 use Rattle.pw_pair.specs.Pairs.{passes}
 use Rattle.pw_pair.specs.Places.{ArePlaces, AreSeats, terminals_of}
 use Rattle.std.specs.Option.{IfSome}
-use Rattle.pw_pair.specs.Seats.{at_terminal, is_lacking, is_seat_of, is_sound, new_seat}
+use Rattle.pw_pair.specs.Seats.{at_terminal, is_lacking, is_seat_of, is_sound, is_waiting, new_seat}
 use Rattle.pw_pair.specs.declared.seat.BackupSeat.{BackupSeat}
 
 -- the terminal of a seat
@@ -115,17 +115,24 @@ all-set test (seat ∷ seats) (suc k) new h own =
     let first : test seat ≡ true = (and_parts (test seat) (list_all test seats) h).0 in
     rw first (all-set test seats k new (and_parts (test seat) (list_all test seats) h).1 own)
 
+-- what is counted, where one seat is changed
+recounted : (test : BackupSeat → Bool) (seats : List BackupSeat) (count now k : ℕ) (d new : BackupSeat) → count ≡ count_by test seats → k < length seats
+    → now ≡ count + cond (test new) 1 0 - cond (test (get_or seats k d)) 1 0 → now ≡ count_by test (set seats k new)
+recounted test seats count now k d new is lt e = omega (arith, sum_by-set (λ seat. cond (test seat) 1 0) seats k new d lt)
+
 -- seats keep what they keep where one is changed to a sound one of the same terminal
-pub keeps : (seats : List BackupSeat) (places : BTreeMap ℕ ℕ) (lacking count k : ℕ) (d new : BackupSeat) → AreSeats seats places lacking → k < length seats
-    → new.terminal ≡ (get_or seats k d).terminal → is_sound new ≡ true
-    → count ≡ lacking + cond (is_lacking new) 1 0 - cond (is_lacking (get_or seats k d)) 1 0
-    → AreSeats (set seats k new) places count
-keeps seats places lacking count k d new are lt same sound e =
+keeps : (seats : List BackupSeat) (places : BTreeMap ℕ ℕ) (lacking lacking_now waiting waiting_now k : ℕ) (d new : BackupSeat) → AreSeats seats places lacking waiting
+    → k < length seats → new.terminal ≡ (get_or seats k d).terminal → is_sound new ≡ true
+    → lacking_now ≡ lacking + cond (is_lacking new) 1 0 - cond (is_lacking (get_or seats k d)) 1 0
+    → waiting_now ≡ waiting + cond (is_waiting new) 1 0 - cond (is_waiting (get_or seats k d)) 1 0
+    → AreSeats (set seats k new) places lacking_now waiting_now
+keeps seats places lacking lacking_now waiting waiting_now k d new are lt same sound e w =
     let P : List ℕ → Type 0 = λ ts. ArePlaces places ts in
     record {
       places_are = subst P (sym (map-set_same (λ seat. seat.terminal) seats k new d same)) are.places_are;
       sound = all-set is_sound seats k new are.sound sound;
-      lacks = let c = are.lacks in omega (arith, sum_by-set (λ seat. cond (is_lacking seat) 1 0) seats k new d lt);
+      lacks = recounted is_lacking seats lacking lacking_now k d new are.lacks lt e;
+      waits = recounted is_waiting seats waiting waiting_now k d new are.waits lt w;
     }
 
 -- What a call that changes one seat owes, in the words of its places.
@@ -162,8 +169,8 @@ module _ (places : BTreeMap ℕ ℕ) (items now : List BackupSeat) (t : ℕ) (vi
       pub seat-passes : (test : BackupSeat → Bool) → passes test (find (is_seat_of t) now) ≡ true → test seat ≡ true
       seat-passes test h = sym (ap (passes test) seat-find) ∙ h
 
-      pub seat-sound : (lacking : ℕ) → AreSeats items places lacking → is_sound seat ≡ true
-      seat-sound lacking seats = ap is_sound is ∙ each-sound is_sound items k seat seats.sound within-at
+      pub seat-sound : (lacking waiting : ℕ) → AreSeats items places lacking waiting → is_sound seat ≡ true
+      seat-sound lacking waiting seats = ap is_sound is ∙ each-sound is_sound items k seat seats.sound within-at
 
       pub changed-seat : (change : BackupSeat → BackupSeat) (new : BackupSeat) → new ≡ change seat → set items k new ≡ at_terminal t change now
       changed-seat change new e =
@@ -171,34 +178,41 @@ module _ (places : BTreeMap ℕ ℕ) (items now : List BackupSeat) (t : ℕ) (vi
           ∙ ap (λ l. at_terminal t change l) view
 
       -- what is counted again is counted, and is at most the seats
-      pub counted-seat : (lacking : ℕ) → AreSeats items places lacking → cond (is_lacking seat) 1 0 ≤ lacking
-      counted-seat lacking seats =
-          let c = seats.lacks in
-          omega (arith, ap {B = ℕ} (λ s. cond (is_lacking s) 1 0) is, get_or-le-sum_by (λ s. cond (is_lacking s) 1 0) items k seat within-at)
+      pub counted-seat : (test : BackupSeat → Bool) (count : ℕ) → count ≡ count_by test items → cond (test seat) 1 0 ≤ count
+      counted-seat test count c =
+          omega (arith, ap {B = ℕ} (λ s. cond (test s) 1 0) is, get_or-le-sum_by (λ s. cond (test s) 1 0) items k seat within-at)
 
-      pub room-seat : (lacking : ℕ) (new : BackupSeat) → AreSeats items places lacking → lacking + cond (is_lacking new) 1 0 ≤ length items + cond (is_lacking seat) 1 0
-      room-seat lacking new seats =
-          let c = seats.lacks in
+      pub room-seat : (test : BackupSeat → Bool) (count : ℕ) (new : BackupSeat) → count ≡ count_by test items
+          → count + cond (test new) 1 0 ≤ length items + cond (test seat) 1 0
+      room-seat test count new c =
           omega (
             arith,
-            ap {B = ℕ} (λ s. cond (is_lacking s) 1 0) is,
-            sum_by-set (λ s. cond (is_lacking s) 1 0) items k new seat within-at,
-            count_by-le-length is_lacking (set items k new),
+            ap {B = ℕ} (λ s. cond (test s) 1 0) is,
+            sum_by-set (λ s. cond (test s) 1 0) items k new seat within-at,
+            count_by-le-length test (set items k new),
             length-set items k new,
           )
 
-      pub kept-seat : (lacking count : ℕ) (new : BackupSeat) → AreSeats items places lacking → new.terminal ≡ seat.terminal
-          → (is_sound seat ≡ true → is_sound new ≡ true) → count ≡ lacking + cond (is_lacking new) 1 0 - cond (is_lacking seat) 1 0
-          → AreSeats (set items k new) places count
-      kept-seat lacking count new seats same sound e =
-          keeps items places lacking count k seat new seats within-at (same ∙ ap (λ s. s.terminal) is)
+      pub kept-seat : (lacking lacking_now waiting waiting_now : ℕ) (new : BackupSeat) → AreSeats items places lacking waiting → new.terminal ≡ seat.terminal
+          → (is_sound seat ≡ true → is_sound new ≡ true)
+          → lacking_now ≡ lacking + cond (is_lacking new) 1 0 - cond (is_lacking seat) 1 0
+          → waiting_now ≡ waiting + cond (is_waiting new) 1 0 - cond (is_waiting seat) 1 0
+          → AreSeats (set items k new) places lacking_now waiting_now
+      kept-seat lacking lacking_now waiting waiting_now new seats same sound e w =
+          keeps items places lacking lacking_now waiting waiting_now k seat new seats within-at (same ∙ ap (λ s. s.terminal) is)
           (sound (ap is_sound is ∙ each-sound is_sound items k seat seats.sound within-at))
           (e ∙ ap (λ s. lacking + cond (is_lacking new) 1 0 - cond (is_lacking s) 1 0) is)
+          (w ∙ ap (λ s. waiting + cond (is_waiting new) 1 0 - cond (is_waiting s) 1 0) is)
 
 -- a count stays where what is counted is so before and behind
-pub same-count : (n : ℕ) (b : Bool) → n ≡ n + cond b 1 0 - cond b 1 0
-same-count n true = omega arith
-same-count n false = omega arith
+pub same-count : (n : ℕ) (before after : Bool) → after ≡ before → n ≡ n + cond after 1 0 - cond before 1 0
+same-count n true after e = rw e (omega arith)
+same-count n false after e = rw e (omega arith)
+
+-- what was counted by these answers is counted by what they tell
+pub told-count : (n now : ℕ) (before after was is : Bool) → now ≡ n + cond after 1 0 - cond before 1 0 → before ≡ was → after ≡ is
+    → now ≡ n + cond is 1 0 - cond was 1 0
+told-count n now before after was is e b a = rw (← b, ← a) e
 
 -- some seat is counted exactly where the count is above 0
 pub any-count : (test : BackupSeat → Bool) (seats : List BackupSeat) → nat_lt 0 (count_by test seats) ≡ list_any test seats
@@ -210,6 +224,17 @@ any-count test (seat ∷ seats) =
         → nat_lt 0 (cond b 1 0 + count_by test seats) ≡ (b || list_any test seats)
     counted true seats h = lt-ltb 0 (1 + count_by test seats) (omega arith)
     counted false seats h = ap (λ n. nat_lt 0 n) (zero-add (count_by test seats)) ∙ h
+
+-- no seat is found where none is counted
+pub none-found : (test : BackupSeat → Bool) (seats : List BackupSeat) → count_by test seats ≡ 0 → find test seats ≡ None
+none-found test [] none = refl
+none-found test (seat ∷ seats) none =
+    looked (test seat) refl (sym (sum_by-cons (λ s. cond (test s) 1 0) seat seats) ∙ none) (none-found test seats)
+  where
+    looked : (b : Bool) → test seat ≡ b → cond (test seat) 1 0 + count_by test seats ≡ 0 → (count_by test seats ≡ 0 → find test seats ≡ None)
+        → find test (seat ∷ seats) ≡ None
+    looked true is none rest = absurd (let one : cond (test seat) 1 0 ≡ 1 = ap {B = ℕ} (λ b. cond b 1 0) is in omega (arith, one))
+    looked false is none rest = rw is (rest (omega arith))
 
 -- the map has a terminal exactly where it has a seat
 pub nowhere-any : (t : ℕ) (seats : List BackupSeat) (d : BackupSeat) → IsNowhere t seats d → list_any (is_seat_of t) seats ≡ false
@@ -242,15 +267,28 @@ sound-map change keep (seat ∷ seats) h =
     let own : is_sound (change seat) ≡ true = keep seat k.0 in
     rw own (sound-map change keep seats k.1)
 
-pub kept-map : (change : BackupSeat → BackupSeat) (seats new : List BackupSeat) (places : BTreeMap ℕ ℕ) (lacking count : ℕ)
+-- nothing is counted where no changed seat counts
+count-none : (test : BackupSeat → Bool) (change : BackupSeat → BackupSeat) → ((seat : BackupSeat) → test (change seat) ≡ false) → (seats : List BackupSeat)
+    → count_by test (map change seats) ≡ 0
+count-none test change none [] = refl
+count-none test change none (seat ∷ seats) =
+    sum_by-cons (λ s. cond (test s) 1 0) (change seat) (map change seats)
+    ∙ ap (λ b. cond b 1 0 + count_by test (map change seats)) (none seat)
+    ∙ zero-add (count_by test (map change seats))
+    ∙ count-none test change none seats
+
+-- each seat is changed, and none waits any more
+pub kept-map : (change : BackupSeat → BackupSeat) (seats new : List BackupSeat) (places : BTreeMap ℕ ℕ) (lacking waiting lacking_now : ℕ)
     → ((seat : BackupSeat) → (change seat).terminal ≡ seat.terminal) → ((seat : BackupSeat) → is_sound seat ≡ true → is_sound (change seat) ≡ true)
-    → AreSeats seats places lacking → new ≡ map change seats → count ≡ count_by is_lacking new → AreSeats new places count
-kept-map change seats new places lacking count same keep are e counted =
+    → ((seat : BackupSeat) → is_waiting (change seat) ≡ false)
+    → AreSeats seats places lacking waiting → new ≡ map change seats → lacking_now ≡ count_by is_lacking new → AreSeats new places lacking_now 0
+kept-map change seats new places lacking waiting lacking_now same keep none are e counted =
     let P : List ℕ → Type 0 = λ ts. ArePlaces places ts in
     record {
       places_are = subst P (sym (terminals-map change same seats) ∙ ap terminals_of (sym e)) are.places_are;
       sound = ap (list_all is_sound) e ∙ sound-map change keep seats are.sound;
       lacks = counted;
+      waits = sym (ap (count_by is_waiting) e ∙ count-none is_waiting change none seats);
     }
 
 -- as many are counted where each counts as before

@@ -1,11 +1,11 @@
 -- A seat stays sound.
-use Rattle.std.proofs.Common.{◌≡◌, ℕ, ◌==◌, ◌&&◌, Bool, true, false, cond, List, length, Option, Some, None, refl, sym, ap, ◌∙◌}
+use Rattle.std.proofs.Common.{◌≡◌, ℕ, ◌==◌, ◌&&◌, Bool, true, false, not, cond, List, length, Option, Some, None, refl, sym, ap, ◌∙◌}
 use Rattle.std.proofs.lemmas.Bool.{false≢true, eq-eqb, eqb-true, and_parts, and_from}
 use Rattle.pw_pair.specs.Bodies.{body_of, fits_held, image_in, is_image, is_whole}
 use Rattle.pw_pair.specs.declared.message.Body.TheVariants.{Delta, Whole}
 use Rattle.pw_image.specs.Records.{changed_records}
 use Rattle.pw_image.proofs.Patching.{patch, within}
-use Rattle.pw_pair.specs.Seats.{applied, built, end_is_image, flies_built, flies_whole, is_built, flight_is_sound, held_is_sound, is_sound, memory_is_sound, start_of, taken_in, with_carried, with_held, with_kind, with_message, with_whole, without_backup, without_flight}
+use Rattle.pw_pair.specs.Seats.{applied, built, end_is_image, flies_built, flies_waiting, flies_whole, is_built, flight_is_sound, held_is_sound, is_sound, memory_is_sound, start_of, taken_in, with_carried, with_held, with_kind, with_message, with_whole, without_backup, without_flight}
 use Rattle.pw_pair.specs.declared.message.Carried.{Carried}
 use Rattle.pw_pair.specs.declared.backup.Held.{Held}
 use Rattle.pw_pair.specs.declared.message.CheckKind.{CheckKind}
@@ -100,6 +100,11 @@ whole-of start (Some flight) h b =
     let k = and_parts (fits_held start flight.message.body) _ h in
     let i = and_parts (is_image (image_in start flight.message.body)) _ k.1 in
     ap (λ x. cond x (is_whole flight.message.body) true) (sym b) ∙ i.1
+
+-- what is built waits no more
+pub built-waits-not : (flight : Option Flight) → flies_built flight ≡ true → flies_waiting flight ≡ false
+built-waits-not None b = refl
+built-waits-not (Some flight) b = ap not b
 
 -- a built message is whole
 pub built-whole : (seat : BackupSeat) → is_sound seat ≡ true → is_built seat ≡ true → flies_whole seat.flight ≡ true

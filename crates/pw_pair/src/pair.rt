@@ -74,6 +74,13 @@ impl Pair {
         self.seats.as_slice()
     }
 
+    /// The seat of its first terminal whose message is in flight and not built. Where none waits, no seat is looked at.
+    pub fn first_waiting(&self) -> Option<&BackupSeat>
+        ensures { option_copied result ≡ find is_waiting self.now.seats }
+    {
+        self.seats.first_waiting()
+    }
+
     /// The seat of a terminal, None exactly where it is not of the pair.
     pub fn seat(&self, terminal: u32) -> Option<&BackupSeat>
         ensures { option_copied result ≡ seat_of terminal self.now }

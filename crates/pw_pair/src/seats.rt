@@ -26,6 +26,8 @@ pub struct Seats {
     places: BTreeMap<u32, usize>,
     /// How many seats are of live terminals that the memory lacks.
     lacking: usize,
+    /// How many seats have a message in flight that is not built.
+    waiting: usize,
 }
 
 impl Model for Seats {
@@ -37,19 +39,19 @@ impl Model for Seats {
 
     ghost view = { λ seats. seats.seats.items };
 
-    ghost invariant = { λ seats. AreSeats seats.seats.items seats.places seats.lacking };
+    ghost invariant = { λ seats. AreSeats seats.seats.items seats.places seats.lacking seats.waiting };
 }
 
-/// How many of so many seats are lacking, where one that was lacking or not is lacking or not now.
-fn recount(seats: usize, lacking: usize, before: bool, after: bool) -> usize
-    requires counted { (if before then 1 else 0) ≤ lacking }
-    requires room { lacking + (if after then 1 else 0) ≤ seats + (if before then 1 else 0) }
-    ensures { result ≡ lacking + (if after then 1 else 0) - (if before then 1 else 0) }
+/// How many of so many seats are counted, where one that was counted or not is counted or not now.
+fn recount(seats: usize, count: usize, before: bool, after: bool) -> usize
+    requires counted { (if before then 1 else 0) ≤ count }
+    requires room { count + (if after then 1 else 0) ≤ seats + (if before then 1 else 0) }
+    ensures { result ≡ count + (if after then 1 else 0) - (if before then 1 else 0) }
 {
     match (before, after) {
-        (true, false) => lacking - 1,
-        (false, true) => lacking + 1,
-        _ => lacking,
+        (true, false) => count - 1,
+        (false, true) => count + 1,
+        _ => count,
     }
 }
 
@@ -67,6 +69,7 @@ impl Seats {
             seats: Vec::new(alloc),
             places: BTreeMap::new(alloc),
             lacking: 0,
+            waiting: 0,
         };
         for terminal in terminals {
             seats.add(*terminal)?;
@@ -111,6 +114,16 @@ impl Seats {
         self.lacking > 0
     }
 
+    /// The first seat whose message is in flight and not built. Where there is none, no seat is looked at.
+    pub fn first_waiting(&self) -> Option<&BackupSeat>
+        ensures { option_copied result ≡ find is_waiting self.now }
+    {
+        if self.waiting == 0 {
+            return None;
+        }
+        self.seats.iter().find(|seat| seat.is_waiting())
+    }
+
     /// The seat of a terminal, None exactly where there is none.
     pub fn get(&self, terminal: u32) -> Option<&BackupSeat>
         ensures seat { option_copied result ≡ find (is_seat_of terminal) self.now }
@@ -146,9 +159,12 @@ impl Seats {
         };
         let seat = &mut self.seats[place];
         let before = seat.is_lacking();
+        let waited = seat.is_waiting();
         seat.drop_terminal();
         let after = seat.is_lacking();
+        let waits = seat.is_waiting();
         self.lacking = recount(self.seats.len(), self.lacking, before, after);
+        self.waiting = recount(self.seats.len(), self.waiting, waited, waits);
     }
 
     /// Puts a message in flight for the terminal: its changes against the start image that is held, where that is as
@@ -169,7 +185,11 @@ impl Seats {
             return Ok(());
         };
         let body = body_at(alloc, self.seats.as_slice(), place, image)?;
-        self.seats[place].put_flight(Carried { kind, unit, body });
+        let seat = &mut self.seats[place];
+        let waited = seat.is_waiting();
+        seat.put_flight(Carried { kind, unit, body });
+        let waits = seat.is_waiting();
+        self.waiting = recount(self.seats.len(), self.waiting, waited, waits);
         Ok(())
     }
 
@@ -218,7 +238,11 @@ impl Seats {
         let Some(place) = self.places.get(&terminal).copied() else {
             return;
         };
-        self.seats[place].put_image(image);
+        let seat = &mut self.seats[place];
+        let waited = seat.is_waiting();
+        seat.put_image(image);
+        let waits = seat.is_waiting();
+        self.waiting = recount(self.seats.len(), self.waiting, waited, waits);
     }
 
     /// Puts what is held of a terminal into its seat.
@@ -232,9 +256,12 @@ impl Seats {
         };
         let seat = &mut self.seats[place];
         let before = seat.is_lacking();
+        let waited = seat.is_waiting();
         seat.put_held(held);
         let after = seat.is_lacking();
+        let waits = seat.is_waiting();
         self.lacking = recount(self.seats.len(), self.lacking, before, after);
+        self.waiting = recount(self.seats.len(), self.waiting, waited, waits);
     }
 
     /// Puts what is held of each terminal into its seat. It takes no memory.
@@ -263,6 +290,7 @@ impl Seats {
     {
         move_memory(&mut self.seats, images);
         self.lacking = lacking_in(self.seats.as_slice());
+        self.waiting = 0;
     }
 
     /// Drops what is in memory and in flight.
@@ -271,6 +299,7 @@ impl Seats {
     {
         drop_backups(&mut self.seats);
         self.lacking = lacking_in(self.seats.as_slice());
+        self.waiting = 0;
     }
 
     /// Drops what is in flight.
@@ -278,6 +307,7 @@ impl Seats {
         ensures { self.new ≡ map without_flight self.old }
     {
         drop_flights(&mut self.seats);
+        self.waiting = 0;
     }
 }
 

@@ -1,12 +1,10 @@
 //! The images of messages in flight, which are built outside the world.
 
-ghost use Rattle.std.specs.Prelude.{◌≡◌, ◌<◌, ◌==◌, IfOk, find, length};
+ghost use Rattle.std.specs.Prelude.{◌≡◌, ◌<◌, ◌==◌, IfOk, length};
 ghost use Rattle.std.specs.List.{IsDistinct};
-ghost use Rattle.std.specs.Option.{option_copied};
 ghost use Rattle.pw_world_store.specs.Keeps.{kept_in, terminals_in};
 ghost use Rattle.pw_world.specs.States.{seen};
 ghost use Rattle.pw_world_model.specs.Calls.{GivesBack, lent};
-ghost use Rattle.pw_pair.specs.Seats.{is_waiting};
 
 use crate::actors::{is_actor, tcp_of};
 use crate::world::World;
@@ -14,7 +12,6 @@ use pw_actor_queue::actor::Actor;
 use pw_base::memory::Memory;
 use pw_pair::link::{LinkDone, LinkTask};
 use pw_pair::pair::Pair;
-use pw_pair::seat::BackupSeat;
 use pw_tmf::disc::Disc;
 
 impl<D: Disc> World<D> {
@@ -49,15 +46,8 @@ fn first_task(pair: &Pair) -> Result<Option<LinkTask>, Memory>
     requires { IsDistinct (λ a b. a == b) (terminals_in pair.now) }
     ensures { IfOk result (λ task. task ≡ lent pair.now) }
 {
-    match first_waiting(pair.seats()) {
+    match pair.first_waiting() {
         Some(seat) => Ok(Some(pair.lend(seat.terminal)?)),
         None => Ok(None),
     }
-}
-
-/// The first seat whose message is in flight and not built.
-fn first_waiting(seats: &[BackupSeat]) -> Option<&BackupSeat>
-    ensures { option_copied result ≡ find is_waiting seats.now }
-{
-    seats.iter().find(|seat| seat.is_waiting())
 }

@@ -12,7 +12,7 @@ lend-requires c =
     let seats = c.args.pair.now.seats in
     let seat = c.in-Some.seat.now in
     let found : find is_waiting seats ≡ Some seat =
-    ap (find is_waiting) (sym c.seats.ensures) ∙ sym c.first_waiting.ensures ∙ ap option_copied c.in-Some.is in
+    sym c.first_waiting.ensures ∙ ap option_copied c.in-Some.is in
     ap (passes is_waiting) (own-seat is_waiting seats seat c.requires found) ∙ waits seats seat found
 
 pub returns-in_ok-lend-in-Some : goal.returns-in_ok-lend-in-Some
@@ -20,5 +20,5 @@ returns-in_ok-lend-in-Some c =
     let seats = c.args.pair.now.seats in
     let seat = c.in-Some.seat.now in
     let found : find is_waiting seats ≡ Some seat =
-    ap (find is_waiting) (sym c.seats.ensures) ∙ sym c.first_waiting.ensures ∙ ap option_copied c.in-Some.is in
+    sym c.first_waiting.ensures ∙ ap option_copied c.in-Some.is in
     sym (ap task_at found ∙ sym (ap task_at (own-seat is_waiting seats seat c.requires found)) ∙ c.in_ok-lend-in-Some.ensures)

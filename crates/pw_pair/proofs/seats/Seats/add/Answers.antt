@@ -22,18 +22,19 @@ returns-then-contains_key-clause-ok c =
 
 pub invariant_of-self-in_err-insert : goal.invariant_of-self-in_err-insert
 invariant_of-self-in_err-insert c =
-    let P : List BackupSeat → Type 0 = λ l. AreSeats l c.insert.new.self c.self.inside.lacking in
+    let P : List BackupSeat → Type 0 = λ l. AreSeats l c.insert.new.self c.self.inside.lacking c.self.inside.waiting in
     subst P (sym c.in_ok-reserve.ensures.items)
     (record {
       places_are = same-places c.self.inside.places c.insert.new.self _ c.in_err-insert.ensures.err c.self.invariant.places_are;
       sound = c.self.invariant.sound;
       lacks = c.self.invariant.lacks;
+      waits = c.self.invariant.waits;
     })
 
 pub invariant_of-self-2 : goal.invariant_of-self-2
 invariant_of-self-2 c =
     let absent = is_some-None (get nat_cmp c.self.inside.places c.args.terminal) (sym c.if-contains_key.ensures) in
-    added c.self.inside.seats.items c.push.new.self.items c.self.inside.places c.insert.new.self c.self.inside.lacking c.args.terminal c.len-place.result
+    added c.self.inside.seats.items c.push.new.self.items c.self.inside.places c.insert.new.self c.self.inside.lacking c.self.inside.waiting c.args.terminal c.len-place.result
     c.self.invariant absent (let e = c.len-place.ensures in let n = c.self.inside.seats.ok.0 in omega (arith, e, n)) c.in_ok-insert.ensures.updates.0
     (c.push.ensures.items ∙ ap (λ r. cond (is_ok r) (c.reserve.new.self.items ++ c.new.result ∷ []) c.reserve.new.self.items) c.unwrap.ensures
     ∙ ap (λ l. l ++ c.new.result ∷ []) c.in_ok-reserve.ensures.items ∙ ap (λ s. c.self.inside.seats.items ++ s ∷ []) c.new.ensures)

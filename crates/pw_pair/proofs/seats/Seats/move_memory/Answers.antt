@@ -12,8 +12,8 @@ use Rattle.pw_pair.proofs.seats.Seats.move_memory.Goals as goal
 
 pub invariant_of-self : goal.invariant_of-self
 invariant_of-self c =
-    kept-map without_backup c.self.inside.seats.items c.move_memory.new.seats.items c.self.inside.places c.self.inside.lacking _
-    (λ seat. refl) without-backup-sound c.self.invariant c.move_memory.ensures.after
+    kept-map without_backup c.self.inside.seats.items c.move_memory.new.seats.items c.self.inside.places c.self.inside.lacking c.self.inside.waiting _
+    (λ seat. refl) without-backup-sound (λ seat. refl) c.self.invariant c.move_memory.ensures.after
     (c.lacking_in-self-inside.ensures ∙ ap (λ l. count_by is_lacking l) c.as_slice.ensures.value)
 
 pub returns-clause-sound : goal.returns-clause-sound

@@ -1,9 +1,9 @@
 -- The seat at the terminal's place is changed, and the others stay.
 use Rattle.std.proofs.Common.{◌≡◌, ℕ, refl, sym, ap, true, cond, ◌+◌, ◌-◌, ◌∙◌, arith}
-use Rattle.pw_pair.specs.Seats.{is_lacking, is_sound, with_held}
+use Rattle.pw_pair.specs.Seats.{is_lacking, is_sound, is_waiting, with_held}
 use Rattle.pw_pair.proofs.Sound.{held-sound}
 use Rattle.pw_pair.specs.Rooms.{is_used}
-use Rattle.pw_pair.proofs.At.{changed-seat, counted-seat, default-at, kept-seat, one-more, seat-has, room-seat, seat-terminal, within-at}
+use Rattle.pw_pair.proofs.At.{changed-seat, counted-seat, default-at, kept-seat, one-more, seat-has, room-seat, seat-terminal, told-count, within-at}
 use Rattle.pw_pair.proofs.seats.Seats.put_held.Goals as goal
 
 pub returns-in_default-clause-seats : goal.returns-in_default-clause-seats
@@ -14,19 +14,29 @@ index_mut-seat-requires c = let lt = within-at c.self.inside.places c.self.insid
 
 pub recount-self-inside-requires-clause-counted : goal.recount-self-inside-requires-clause-counted
 recount-self-inside-requires-clause-counted c =
-    rw c.is_lacking-before.ensures (counted-seat c.self.inside.places c.self.inside.seats.items c.args.self.now c.args.held.terminal c.self.view_is c.self.invariant.places_are c.in-Some.place (sym c.get.ensures.value ∙ sym c.copied.ensures ∙ c.in-Some.is) c.index_mut-seat.result.now c.index_mut-seat.ensures.value c.self.inside.lacking c.self.invariant)
+    rw c.is_lacking-before.ensures (counted-seat c.self.inside.places c.self.inside.seats.items c.args.self.now c.args.held.terminal c.self.view_is c.self.invariant.places_are c.in-Some.place (sym c.get.ensures.value ∙ sym c.copied.ensures ∙ c.in-Some.is) c.index_mut-seat.result.now c.index_mut-seat.ensures.value is_lacking c.self.inside.lacking c.self.invariant.lacks)
 
 pub recount-self-inside-requires-clause-room : goal.recount-self-inside-requires-clause-room
 recount-self-inside-requires-clause-room c =
-    let own = room-seat c.self.inside.places c.self.inside.seats.items c.args.self.now c.args.held.terminal c.self.view_is c.self.invariant.places_are c.in-Some.place (sym c.get.ensures.value ∙ sym c.copied.ensures ∙ c.in-Some.is) c.index_mut-seat.result.now c.index_mut-seat.ensures.value c.self.inside.lacking c.put_held.new.self c.self.invariant in
+    let own = room-seat c.self.inside.places c.self.inside.seats.items c.args.self.now c.args.held.terminal c.self.view_is c.self.invariant.places_are c.in-Some.place (sym c.get.ensures.value ∙ sym c.copied.ensures ∙ c.in-Some.is) c.index_mut-seat.result.now c.index_mut-seat.ensures.value is_lacking c.self.inside.lacking c.put_held.new.self c.self.invariant.lacks in
     omega (arith, own, ap {B = ℕ} (λ b. cond b 1 0) c.is_lacking-before.ensures, ap {B = ℕ} (λ b. cond b 1 0) c.is_lacking-after.ensures, c.len.ensures, c.self.inside.seats.ok.0)
+
+pub recount-self-inside-requires-2-clause-counted : goal.recount-self-inside-requires-2-clause-counted
+recount-self-inside-requires-2-clause-counted c =
+    rw c.is_waiting-waited.ensures (counted-seat c.self.inside.places c.self.inside.seats.items c.args.self.now c.args.held.terminal c.self.view_is c.self.invariant.places_are c.in-Some.place (sym c.get.ensures.value ∙ sym c.copied.ensures ∙ c.in-Some.is) c.index_mut-seat.result.now c.index_mut-seat.ensures.value is_waiting c.self.inside.waiting c.self.invariant.waits)
+
+pub recount-self-inside-requires-2-clause-room : goal.recount-self-inside-requires-2-clause-room
+recount-self-inside-requires-2-clause-room c =
+    let own = room-seat c.self.inside.places c.self.inside.seats.items c.args.self.now c.args.held.terminal c.self.view_is c.self.invariant.places_are c.in-Some.place (sym c.get.ensures.value ∙ sym c.copied.ensures ∙ c.in-Some.is) c.index_mut-seat.result.now c.index_mut-seat.ensures.value is_waiting c.self.inside.waiting c.put_held.new.self c.self.invariant.waits in
+    omega (arith, own, ap {B = ℕ} (λ b. cond b 1 0) c.is_waiting-waited.ensures, ap {B = ℕ} (λ b. cond b 1 0) c.is_waiting-waits.ensures, c.len-2.ensures, c.self.inside.seats.ok.0)
 
 pub invariant_of-self : goal.invariant_of-self
 invariant_of-self c =
     kept-seat c.self.inside.places c.self.inside.seats.items c.args.self.now c.args.held.terminal c.self.view_is c.self.invariant.places_are c.in-Some.place (sym c.get.ensures.value ∙ sym c.copied.ensures ∙ c.in-Some.is) c.index_mut-seat.result.now c.index_mut-seat.ensures.value
-    c.self.inside.lacking _ c.put_held.new.self c.self.invariant (ap (λ s. s.terminal) c.put_held.ensures)
+    c.self.inside.lacking _ c.self.inside.waiting _ c.put_held.new.self c.self.invariant (ap (λ s. s.terminal) c.put_held.ensures)
     (λ h. ap is_sound c.put_held.ensures ∙ held-sound c.args.held c.index_mut-seat.result.now (sym (seat-terminal c.self.inside.places c.self.inside.seats.items c.args.self.now c.args.held.terminal c.self.view_is c.self.invariant.places_are c.in-Some.place (sym c.get.ensures.value ∙ sym c.copied.ensures ∙ c.in-Some.is) c.index_mut-seat.result.now c.index_mut-seat.ensures.value)) c.requires)
-    (c.recount-self-inside.ensures ∙ ap (λ b. c.self.inside.lacking + cond b 1 0 - cond c.is_lacking-before.result 1 0) c.is_lacking-after.ensures ∙ ap (λ b. c.self.inside.lacking + cond (is_lacking c.put_held.new.self) 1 0 - cond b 1 0) c.is_lacking-before.ensures)
+    (told-count _ _ _ _ _ _ c.recount-self-inside.ensures c.is_lacking-before.ensures c.is_lacking-after.ensures)
+    (told-count _ _ _ _ _ _ c.recount-self-inside-2.ensures c.is_waiting-waited.ensures c.is_waiting-waits.ensures)
 
 pub returns-clause-seats : goal.returns-clause-seats
 returns-clause-seats c =
