@@ -23,13 +23,16 @@ use pw_pair::mode::Mode;
 use pw_pair::seat::BackupSeat;
 use pw_tmf::disc::Disc;
 
+/// No entry touches more actors itself, but one that cancels the requests of a whole pair: there is room for so many at once.
+const USUAL_ACTORS: usize = 4;
+
 impl<D: Disc> World<D> {
     /// The actors that an entry touches itself: all but those of a pair for its change of mode.
     pub(crate) fn touched(&self, entry: &Event) -> Result<Vec<Actor>, Memory>
         requires { CanPush (seen D.told self.now) entry.now }
         ensures { IfOk result (λ actors. AreTouched (seen D.told self.now) entry.now actors.items) }
     {
-        let mut actors = Vec::new(self.alloc);
+        let mut actors = Vec::with_capacity(self.alloc, USUAL_ACTORS)?;
         self.push_named(&mut actors, entry)?;
         self.push_cancelled(&mut actors, entry)?;
         Ok(actors)

@@ -37,8 +37,8 @@ returns-clause-ok g c =
     let t = c.args.terminal in
     let done = answer.Replied c.args.reply in
     let gone =
-        goes-behind g.D.Disc.told t done without_unit (told-behind t c.args.unit c.in_ok-kept.kept) (λ kept. kept.births) c.args.keep.now c.commit.new.self c.go_behind.new.keep
-        c.in_ok-commit.ensures.ok c.go_behind.ensures
+    goes-behind g.D.Disc.told t done without_unit (told-behind t c.args.unit c.in_ok-kept.kept) (λ kept. kept.births) c.args.keep.now c.commit.new.self c.go_behind.new.keep
+    c.in_ok-commit.ensures.ok c.go_behind.ensures
     in
     record {
       system = c.free.ensures.system ∙ gone.system;

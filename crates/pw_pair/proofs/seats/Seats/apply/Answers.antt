@@ -1,5 +1,5 @@
 -- The seat at the terminal's place is changed, and the others stay.
-use Rattle.std.proofs.Common.{◌≡◌, ℕ, refl, sym, ap, true, cond, ◌+◌, ◌-◌, ◌∙◌, arith}
+use Rattle.std.proofs.Common.{ℕ, sym, ap, cond, ◌∙◌, arith}
 use Rattle.pw_pair.specs.Seats.{applied, is_built, is_lacking, is_sound, is_waiting}
 use Rattle.pw_pair.proofs.Sound.{applied-sound, built-waits-not, built-whole}
 use Rattle.pw_pair.proofs.At.{changed-seat, counted-seat, default-at, kept-seat, room-seat, same-count, seat-passes, seat-sound, told-count, within-at}

@@ -1,7 +1,7 @@
 -- The seat at the terminal's place is changed, and the others stay.
-use Rattle.std.proofs.Common.{◌≡◌, ℕ, refl, sym, ap, true, cond, ◌+◌, ◌-◌, ◌∙◌, arith}
+use Rattle.std.proofs.Common.{ℕ, sym, ap, cond, ◌∙◌, arith}
 use Rattle.pw_pair.specs.Seats.{dropped, is_lacking, is_sound, is_waiting}
-use Rattle.pw_pair.proofs.At.{changed-seat, counted-seat, default-at, kept-seat, seat-has, room-seat, seat-terminal, told-count, within-at}
+use Rattle.pw_pair.proofs.At.{changed-seat, counted-seat, default-at, kept-seat, room-seat, told-count, within-at}
 use Rattle.pw_pair.proofs.seats.Seats.drop_terminal.Goals as goal
 
 pub returns-in_default : goal.returns-in_default

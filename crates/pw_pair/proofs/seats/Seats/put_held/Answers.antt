@@ -1,9 +1,9 @@
 -- The seat at the terminal's place is changed, and the others stay.
-use Rattle.std.proofs.Common.{◌≡◌, ℕ, refl, sym, ap, true, cond, ◌+◌, ◌-◌, ◌∙◌, arith}
+use Rattle.std.proofs.Common.{ℕ, sym, ap, cond, ◌∙◌, arith}
 use Rattle.pw_pair.specs.Seats.{is_lacking, is_sound, is_waiting, with_held}
 use Rattle.pw_pair.proofs.Sound.{held-sound}
 use Rattle.pw_pair.specs.Rooms.{is_used}
-use Rattle.pw_pair.proofs.At.{changed-seat, counted-seat, default-at, kept-seat, one-more, seat-has, room-seat, seat-terminal, told-count, within-at}
+use Rattle.pw_pair.proofs.At.{changed-seat, counted-seat, default-at, kept-seat, one-more, room-seat, seat-terminal, told-count, within-at}
 use Rattle.pw_pair.proofs.seats.Seats.put_held.Goals as goal
 
 pub returns-in_default-clause-seats : goal.returns-in_default-clause-seats

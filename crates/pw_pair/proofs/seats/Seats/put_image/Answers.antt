@@ -1,5 +1,5 @@
 -- The seat at the terminal's place is changed, and the others stay.
-use Rattle.std.proofs.Common.{◌≡◌, ℕ, refl, sym, ap, true, cond, ◌+◌, ◌-◌, ◌∙◌, arith}
+use Rattle.std.proofs.Common.{ℕ, sym, ap, cond, ◌∙◌, arith}
 use Rattle.pw_pair.specs.Seats.{built, is_lacking, is_sound, is_waiting, stands_for}
 use Rattle.pw_pair.proofs.Sound.{built-sound}
 use Rattle.pw_pair.proofs.At.{changed-seat, counted-seat, default-at, kept-seat, room-seat, same-count, seat-has, told-count, within-at}

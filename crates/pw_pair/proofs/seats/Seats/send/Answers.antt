@@ -1,5 +1,5 @@
 -- The message is in flight at the terminal's place.
-use Rattle.std.proofs.Common.{◌≡◌, ℕ, sym, ap, cond, ◌+◌, ◌-◌, ◌∙◌, get_or, arith}
+use Rattle.std.proofs.Common.{ℕ, sym, ap, cond, ◌∙◌, get_or, arith}
 use Rattle.pw_pair.specs.Bodies.{body_of}
 use Rattle.pw_pair.specs.Seats.{is_lacking, is_sound, is_waiting, start_of, with_carried, with_message}
 use Rattle.pw_pair.proofs.At.{changed-seat, counted-seat, default-at, kept-seat, room-seat, same-count, told-count, within-at}

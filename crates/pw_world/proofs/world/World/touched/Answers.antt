@@ -25,4 +25,4 @@ returns g c =
     let w : WorldState g.row.D.Denot = record { keep = c.self.inside.keep; first = c.self.inside.first.value; script = c.self.inside.script.lines; limit = c.self.inside.limit; failed = c.self.inside.failed; ledger = c.self.inside.ledger } in
     rw (← c.self.view_is)
     (touched-whole g.D.Disc.told w c.self.invariant c.args.entry.now (rw (← c.self.view_is) at c.requires) [] c.push_named.new.actors.items c.push_cancelled.new.actors.items
-    ((rw (← c.self.view_is) at c.in_ok-push_named.ensures) ∙ ap (λ (items : List Actor). items ++ named w.keep.system (kept_in g.D.Disc.told w.keep) c.args.entry.now) c.new-actors.ensures.items) (rw (← c.self.view_is) at c.in_ok-push_cancelled.ensures))
+    ((rw (← c.self.view_is) at c.in_ok-push_named.ensures) ∙ ap (λ (items : List Actor). items ++ named w.keep.system (kept_in g.D.Disc.told w.keep) c.args.entry.now) c.in_ok-actors.ensures.items) (rw (← c.self.view_is) at c.in_ok-push_cancelled.ensures))
