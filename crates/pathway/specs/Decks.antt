@@ -6,6 +6,7 @@ use Rattle.pathway.specs.declared.decks.DeckCommand.TheVariants as asked
 use Rattle.pathway.specs.declared.runs.RunCommand.{RunCommand}
 use Rattle.pathway.specs.declared.runs.RunCommand.TheVariants as ask
 use Rattle.pw_base.specs.declared.fault.Fault.{Fault}
+use Rattle.pw_command_line.specs.CommandLine.{most_events}
 use Rattle.pw_input_output.specs.declared.status.Status.{Status}
 use Rattle.pw_input_output.specs.declared.status.Status.TheVariants as status
 use Rattle.pw_deck.specs.Deck.{deck_of}
@@ -27,9 +28,9 @@ use Rattle.pw_status.specs.declared.status.Counted.TheVariants as counted
 
 -- a run has at most 500,000 entries
 abbrev pub IsRunInRange : RunCommand → Type 0
-IsRunInRange (ask.Run events) = events ≤ 500000
-IsRunInRange (ask.Disc events) = events ≤ 500000
-IsRunInRange (ask.Trail events at) = events ≤ 500000
+IsRunInRange (ask.Run events) = events ≤ most_events
+IsRunInRange (ask.Disc events) = events ≤ most_events
+IsRunInRange (ask.Trail events at) = events ≤ most_events
 
 -- what is read has a first fault, and the text is the line of it
 pub record HasFault {X : Type 0} (read : Result X Fault) (text : List ℕ) : Type 0 where

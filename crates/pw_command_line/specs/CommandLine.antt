@@ -12,6 +12,10 @@ use Rattle.pw_command_line.specs.declared.words.Words.{Words}
 use Rattle.pw_command_line.specs.declared.words.WordsFault.{WordsFault}
 use Rattle.pw_command_line.specs.declared.words.WordsFault.TheVariants as fault
 
+-- the most entries of a run
+abbrev pub most_events : ℕ
+most_events = 500000
+
 -- the option `--name N`, where N is a number from low to high
 abbrev pub option_rule : Text → ℕ → ℕ → Text → Rule
 option_rule name low high usual = record (new_rule name) {
@@ -34,10 +38,10 @@ abbrev pub pathway_app : App
 pathway_app =
     with_rule (with_rule (with_rule (with_rule (with_rule (with_rule bare_app command_rule)
     (option_rule (codes "workers") 1 16 (codes "2")))
-    (option_rule (codes "events") 1 500000 (codes "100000")))
+    (option_rule (codes "events") 1 most_events (codes "100000")))
     (option_rule (codes "seed") 0 4294967295 (codes "1")))
     (option_rule (codes "terms") 1 64 (codes "8")))
-    (option_rule (codes "at") 0 500000 (codes "0"))
+    (option_rule (codes "at") 0 most_events (codes "0"))
 
 -- the command of a name
 abbrev pub command_named : Text → Option Command
@@ -97,10 +101,10 @@ ReadsCommandLine words result = MatchResult result
 -- the numbers are in the ranges of the options
 pub record AreOptionsInRange (words : Words) : Type 0 where
   pub workers : (1 ≤ words.workers) × (words.workers ≤ 16)
-  pub events : (1 ≤ words.events) × (words.events ≤ 500000)
+  pub events : (1 ≤ words.events) × (words.events ≤ most_events)
   pub seed : words.seed ≤ 4294967295
   pub terms : (1 ≤ words.terms) × (words.terms ≤ 64)
-  pub at : words.at ≤ 500000
+  pub at : words.at ≤ most_events
 
 -- there is a text, and `u64` reads a number in the bounds from it
 abbrev pub IsNumberIn : ℕ → ℕ → Option Text → Type 0

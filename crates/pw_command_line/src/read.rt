@@ -8,6 +8,9 @@ use clap::error::ErrorKind;
 use clap::{Arg, ArgAction, ArgMatches};
 use std::alloc::{AllocError, Global};
 
+/// The most entries of a run.
+const MAX_EVENTS: u64 = 500_000;
+
 /// Reads the words behind the program's name: what they say, or `Refused` exactly where they are not
 /// the command's.
 ///
@@ -53,10 +56,10 @@ fn simple_command<'a>(alloc: Global) -> Result<clap::Command<'a>, AllocError>
         .disable_help_flag(true)
         .arg(command_word(alloc))?
         .arg(option(alloc, "workers", 1, 16, "2"))?
-        .arg(option(alloc, "events", 1, 500_000, "100000"))?
+        .arg(option(alloc, "events", 1, MAX_EVENTS, "100000"))?
         .arg(option(alloc, "seed", 0, 4_294_967_295, "1"))?
         .arg(option(alloc, "terms", 1, 64, "8"))?
-        .arg(option(alloc, "at", 0, 500_000, "0"))?;
+        .arg(option(alloc, "at", 0, MAX_EVENTS, "0"))?;
     Ok(pathway)
 }
 

@@ -2,6 +2,7 @@
 use Rattle.std.specs.Prelude.{◌≡◌, ℕ, ◌<◌, List, [], ◌∷◌, Bool, not, ◌&&◌, ◌==◌, nat_le, IsTrue, IsSome, Option, Some, None}
 use Rattle.std.specs.List.{list_all}
 use Rattle.pw_base.specs.Characters.{full_stop}
+use Rattle.pw_base.specs.Limits.{most_content}
 use Rattle.pw_words.specs.Words.{Word}
 use Rattle.pw_code.specs.declared.field.ScreenTable.{ScreenTable}
 use Rattle.pw_code.specs.declared.file.FileInfo.{FileInfo}
@@ -104,7 +105,7 @@ is_key file variable = variable.size == file.key
 
 -- a record has a whole key, and at most 4,000 characters
 abbrev pub is_record : FileInfo → Variable → Bool
-is_record file variable = nat_le file.key variable.size && nat_le variable.size 4000
+is_record file variable = nat_le file.key variable.size && nat_le variable.size most_content
 
 -- there is a file of the name, and the operand is an item or register that passes the test with it
 pub record IsOfFile (scope : Scope) (test : FileInfo → Variable → Bool) (name : Word)
