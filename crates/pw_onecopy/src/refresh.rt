@@ -1,11 +1,11 @@
-use pw_code::screen::ScreenImage;
+use pw_terminal::shown::ShownScreen;
 
 /// One showing of a terminal's screen, under its refresh number `phase.attempt.k`.
-#[derive(Debug, Drop)]
+#[derive(Drop)]
 pub struct Refresh {
     pub terminal: u32,
     pub phase: u32,
     pub attempt: u32,
     pub k: u32,
-    pub image: ScreenImage,
+    pub image: ShownScreen,
 }

@@ -16,7 +16,6 @@ use pw_event::printing::{print_ending, print_event_words};
 use pw_event::writing::{print_number, print_refresh_number, print_word};
 use pw_onecopy::refresh::Refresh;
 use pw_serial_order::block::{Block, How};
-use pw_terminal::printing::print_rows;
 
 /// Puts the line of an entry behind the text: its number in the log, and its words.
 pub fn print_entry(
@@ -97,7 +96,7 @@ pub fn print_refresh(text: &mut Bytes, system: &System, refresh: &Refresh) -> Re
     print_word(text, terminal_name(system, refresh.terminal))?;
     print_refresh_number(text, refresh.phase, refresh.attempt, refresh.k)?;
     text.push(b'\n')?;
-    print_rows(text, &refresh.image)
+    text.extend(refresh.image.lines())
 }
 
 /// Puts the line of a record behind the text.

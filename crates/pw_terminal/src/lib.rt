@@ -7,4 +7,5 @@ pub mod images;
 pub mod laws;
 pub mod printing;
 pub mod show;
+pub mod shown;
 mod values;

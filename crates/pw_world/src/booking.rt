@@ -21,11 +21,12 @@ use pw_event::event::Event;
 use pw_event::script::Owner;
 use pw_onecopy::refresh::Refresh;
 use pw_pair::mode::Mode;
+use pw_terminal::shown::ShownScreen;
 use pw_tmf::disc::Disc;
 use pw_world_store::keep::Keep;
 
 /// What the books get of an entry. It is worked out before the entry is made.
-#[derive(Debug, Drop)]
+#[derive(Drop)]
 pub struct Booking {
     pub owner: Owner,
     /// Whether the entry is the BEGIN of a unit that is one SEND.
@@ -71,7 +72,7 @@ impl<D: Disc> World<D> {
         let Some(ready) = &self.keep.seat(terminal).ready else {
             unreachable!();
         };
-        let image = ready.context.screen.copy(self.alloc)?;
+        let image = ShownScreen::of(self.alloc, &ready.context.screen)?;
         Ok(Some(Refresh {
             terminal,
             phase,
