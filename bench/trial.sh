@@ -1,10 +1,11 @@
 #!/usr/bin/env bash
 # How many units a second the program commits with 1, 2 and 4 workers, by the clock of the shortest of three runs: in the
-# generated deck of 64 terminals (`trial`), and in decks of 64 terminals whose programs compute between their verbs; and by
-# how much it is more with 2 and 4 workers than with 1. Beside it stands PostgreSQL, where it is installed, with 64 clients
-# of which each makes the same changes, each in a transaction; it takes 1, 2 and 4 threads of pgbench, and its server
-# writes without fsync. Its own server runs in a temporary folder, over a socket there. It is no part of the gate. It takes
-# the program that `./pathway` runs, or the one that is named.
+# generated deck of 64 terminals (`trial`), in decks of 64 terminals that add one to a record in each unit (`increments`), and in
+# such whose programs compute between their verbs; and by how much it is more with 2 and 4 workers than with 1. Beside it stand,
+# where they are installed, PostgreSQL with 64 clients of which each makes the same changes, each in a transaction, plain and
+# serializable (pgbench with 1, 2 and 4 threads, over a server of its own that writes without fsync, in a temporary folder), and
+# SQLite in memory, by one connection, each change in a transaction. It is no part of the gate. It takes the program that
+# `./pathway` runs, or the one that is named.
 set -eu
 here=$(cd "$(dirname "$0")" && pwd)
 program=${1:-$here/../pathway}
@@ -13,12 +14,15 @@ work=$(mktemp -d)
 trap finish EXIT
 
 terminals=64
-units=8
+# The units of each terminal, as many as take some tenths of a second: by the turns of its loops.
+units_for() {
+    if [ "$1" -ge 10000 ]; then echo 8; elif [ "$1" -ge 1000 ]; then echo 50; else echo 400; fi
+}
 
 # A deck whose terminals count to a number in a loop, and then add one to a record, over and over: to ten records that
 # all share, or each to its own.
 computing() {
-    local turns=$1 shared=$2
+    local turns=$1 shared=$2 units=$3
     echo "?PATHCOM"
     printf 'SET SERVER PROGRAM COUNT-P\nSET SERVER MAXSERVERS 4\nADD SERVER COUNTER\n'
     printf 'ADD TCP TCP-1\nSTART TCP TCP-1\nADD TCP TCP-2\nSTART TCP TCP-2\n'
@@ -107,38 +111,77 @@ spent() {
 
 # The line of one kind of run: the units a second by workers, and by how much they are more than with one.
 line() {
-    local name=$1 workers
-    shift
-    for workers in 1 2 4; do spent "$workers" "$@"; done | awk -v name="$name" -v units=$((terminals * units)) '
+    local name=$1 units=$2 workers
+    shift 2
+    for workers in 1 2 4; do spent "$workers" "$@"; done | awk -v name="$name" -v units="$units" '
         { rate[NR] = units * 1000 / ($1 > 0 ? $1 : 1) }
         END { printf "%s %.0f %.0f %.0f %.2f %.2f\n", name, rate[1], rate[2], rate[3], rate[2] / rate[1], rate[3] / rate[1] }'
 }
 
-# The transactions a second of 64 clients, each of so many that add one to a record of so many, by 1, 2 and 4 threads.
+# The transactions a second of 64 clients that add one to a record of so many, by 1, 2 and 4 threads: so isolated, each tried
+# again until it commits.
 peer() {
-    local name=$1 keys=$2 threads
+    local name=$1 keys=$2 isolation=$3 threads
     query "DROP TABLE IF EXISTS stock; CREATE TABLE stock (key int PRIMARY KEY, n int); INSERT INTO stock SELECT k, 0 FROM generate_series(0, $keys - 1) k" 2> "$work/err"
     if [ "$keys" -eq "$terminals" ]; then echo '\set k :client_id'; else echo "\\set k random(0, $keys - 1)"; fi > "$work/socket/units.sql"
     echo 'UPDATE stock SET n = n + 1 WHERE key = :k;' >> "$work/socket/units.sql"
     chmod 644 "$work/socket/units.sql"
     for threads in 1 2 4; do
-        as_owner "$bin/pgbench" -n -h "$work/socket" -d postgres -c "$terminals" -j "$threads" -t 200 -f "$work/socket/units.sql" 2> "$work/err" \
+        as_owner env "PGOPTIONS=-c default_transaction_isolation=$isolation" "$bin/pgbench" -n -h "$work/socket" -d postgres \
+            -c "$terminals" -j "$threads" -t 200 --max-tries 1000 -f "$work/socket/units.sql" 2> "$work/err" \
             | sed -n 's/^tps = \([0-9.]*\).*/\1/p'
     done | awk -v name="$name" '{ rate[NR] = $1 } END { printf "%s %.0f %.0f %.0f %.2f %.2f\n", name, rate[1], rate[2], rate[3], rate[2] / rate[1], rate[3] / rate[1] }'
 }
 
+# The transactions a second of SQLite in memory that add one to a record of so many: by one statement each, and by those that a
+# unit has: begin, read, change, commit.
+in_memory() {
+    python3 - "$1" << 'END'
+import sqlite3, sys, time
+
+keys, count = int(sys.argv[1]), 100_000
+UPDATE = "UPDATE stock SET n = n + 1 WHERE key = ?"
+
+
+def alone(base, key):
+    base.execute(UPDATE, key)
+
+
+def unit(base, key):
+    base.execute("BEGIN IMMEDIATE")
+    base.execute("SELECT n FROM stock WHERE key = ?", key).fetchone()
+    base.execute(UPDATE, key)
+    base.execute("COMMIT")
+
+
+for name, change in ("sqlite-in-memory-statement", alone), ("sqlite-in-memory-unit", unit):
+    base = sqlite3.connect(":memory:", isolation_level=None)
+    base.execute("CREATE TABLE stock (key INTEGER PRIMARY KEY, n INTEGER)")
+    base.executemany("INSERT INTO stock VALUES (?, 0)", [(key,) for key in range(keys)])
+    began = time.monotonic()
+    for turn in range(count):
+        change(base, (turn % keys,))
+    print(name, round(count / (time.monotonic() - began)))
+END
+}
+
 echo "units-a-second-of one-worker two four two-by-one four-by-one"
 : > "$work/deck"
-line trial trial --terms "$terminals" --seed 1
-for turns in 100 10000; do
-    computing "$turns" yes > "$work/deck"
-    line "computing-$turns-shared" run
-    computing "$turns" no > "$work/deck"
-    line "computing-$turns-apart" run
+line trial $((terminals * 8)) trial --terms "$terminals" --seed 1
+for turns in 1 100 1000 10000; do
+    units=$(units_for "$turns")
+    for shared in yes no; do
+        computing "$turns" "$shared" "$units" > "$work/deck"
+        name=$(if [ "$turns" -eq 1 ]; then echo increments; else echo "computing-$turns"; fi)-$(if [ "$shared" = yes ]; then echo shared; else echo apart; fi)
+        line "$name" $((terminals * units)) run --events 500000
+    done
 done
 if start_server off; then
-    peer pgbench-shared 10
-    peer pgbench-apart "$terminals"
+    for isolation in "read committed" serializable; do
+        peer "pgbench-${isolation// /-}-shared" 10 "${isolation// /\\ }"
+        peer "pgbench-${isolation// /-}-apart" "$terminals" "${isolation// /\\ }"
+    done
 else
     echo "pgbench: PostgreSQL is not installed"
 fi
+if python3 -c 'import sqlite3' 2> "$work/err"; then in_memory "$terminals"; else echo "sqlite: Python has no sqlite3 here"; fi
