@@ -66,17 +66,25 @@ fn words_of(alloc: Global, mut arguments: Args) -> Result<StoreWords, Status> {
     }
 }
 
-/// The options behind the folder: `--follow`, and all others as those of the command `run`.
+/// The options behind the folder: `--follow`, and all others as those of the command `run`. Where the number of an option is
+/// awaited `--follow` stays among these, which are refused so.
 fn options_of(alloc: Global, mut arguments: Args) -> Result<Options, Memory> {
     let mut words = Vec::new(alloc);
     let mut follow = false;
+    let mut is_awaited = false;
     words.push(format!(in alloc; "run")?)?;
     while let Some(word) = arguments.next() {
-        if !follow && word.as_str() == "--follow" {
+        if !follow && !is_awaited && word.as_str() == "--follow" {
             follow = true;
         } else {
+            is_awaited = awaits_number(word.as_str());
             words.push(word)?;
         }
     }
     Ok(Options { words, follow })
+}
+
+/// Whether the number of an option is the next word: the option is there, and no number with it.
+fn awaits_number(word: &str) -> bool {
+    word.starts_with("--") && !word.contains('=')
 }
