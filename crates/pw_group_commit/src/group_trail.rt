@@ -19,7 +19,7 @@ use pw_tmf::answer::{DiscFault, Ended, FileAnswer, Foreseen};
 use pw_tmf::disc::Disc;
 use pw_tmf::tmf::Tmf;
 use pw_trail::synced::Synced;
-use pw_trail::trail::{Trail, failed, record_of};
+use pw_trail::trail::{Trail, count_failure, record_of};
 use pw_volume::fault::WriteFault;
 use std::alloc::Global;
 use std::marker::Model;
@@ -103,14 +103,14 @@ impl<S: Synced + Send, N: LogNaming + Send + Sync, F: Follower + Send> Disc
 
     fn begin(&mut self, unit: &Unit) -> Result<(), DiscFault> {
         if self.log.is_broken() {
-            return Err(failed(&mut self.faults));
+            return Err(count_failure(&mut self.faults));
         }
         self.tmf.begin(unit)
     }
 
     fn operate(&mut self, unit: &Unit, call: &FileCall) -> FileAnswer {
         if self.log.is_broken() {
-            let _ = failed(&mut self.faults);
+            let _ = count_failure(&mut self.faults);
             return FileAnswer::Failed;
         }
         self.tmf.operate(unit, call)
@@ -123,13 +123,13 @@ impl<S: Synced + Send, N: LogNaming + Send + Sync, F: Follower + Send> Disc
         match self.log.add(self.alloc, &made) {
             Ok(()) => self.tmf.commit(unit, reply),
             Err(WriteFault::Memory) => Err(DiscFault::Memory),
-            Err(WriteFault::Failed) => Err(failed(&mut self.faults)),
+            Err(WriteFault::Failed) => Err(count_failure(&mut self.faults)),
         }
     }
 
     fn back_out(&mut self, units: &[Unit], ends: bool) -> Result<(), DiscFault> {
         if self.log.is_broken() {
-            return Err(failed(&mut self.faults));
+            return Err(count_failure(&mut self.faults));
         }
         self.tmf.back_out(units, ends)
     }

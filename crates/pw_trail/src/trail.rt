@@ -89,8 +89,8 @@ pub fn record_of(
     })
 }
 
-/// One fault more.
-pub fn failed(faults: &mut u64) -> DiscFault
+/// Counts one fault more, and gives the answer `Failed`.
+pub fn count_failure(faults: &mut u64) -> DiscFault
     ensures fault { result ≡ DiscFault.Failed }
     ensures rose { Rose faults.old faults.new }
 {
@@ -160,7 +160,7 @@ impl<S: Synced + Send> Disc for Trail<S> {
         ensures steady { self.old.log.is_broken ≡ false → self.new.faults ≡ self.old.faults }
     {
         if self.log.is_broken {
-            return Err(failed(&mut self.faults));
+            return Err(count_failure(&mut self.faults));
         }
         self.tmf.begin(unit)
     }
@@ -175,7 +175,7 @@ impl<S: Synced + Send> Disc for Trail<S> {
         ensures steady { self.old.log.is_broken ≡ false → self.new.faults ≡ self.old.faults }
     {
         if self.log.is_broken {
-            let _ = failed(&mut self.faults);
+            let _ = count_failure(&mut self.faults);
             return FileAnswer::Failed;
         }
         self.tmf.operate(unit, call)
@@ -210,14 +210,14 @@ impl<S: Synced + Send> Disc for Trail<S> {
             → S.lasts self.new.log.disk ≡ S.lasts self.old.log.disk }
     {
         if self.log.is_broken {
-            return Err(failed(&mut self.faults));
+            return Err(count_failure(&mut self.faults));
         }
         let changed = self.tmf.changes(unit.terminal)?;
         let made = record_of(self.alloc, unit, changed)?;
         match self.log.append(self.alloc, &made) {
             Ok(()) => self.tmf.commit(unit, reply),
             Err(WriteFault::Memory) => Err(DiscFault::Memory),
-            Err(WriteFault::Failed) => Err(failed(&mut self.faults)),
+            Err(WriteFault::Failed) => Err(count_failure(&mut self.faults)),
         }
     }
 
@@ -234,7 +234,7 @@ impl<S: Synced + Send> Disc for Trail<S> {
         ensures steady { self.old.log.is_broken ≡ false → self.new.faults ≡ self.old.faults }
     {
         if self.log.is_broken {
-            return Err(failed(&mut self.faults));
+            return Err(count_failure(&mut self.faults));
         }
         self.tmf.back_out(units, ends)
     }
