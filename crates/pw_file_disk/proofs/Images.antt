@@ -1,46 +1,15 @@
 -- What the calls of a disk over a file leave of its images.
-use Rattle.std.proofs.Common.{◌≡◌, ◌⊎◌, inl, inr, ⊎_elim, ℕ, ◌+◌, ◌-◌, min, Option, None, List, [], ◌++◌, length, take, drop, refl, sym, ◌∙◌, ap, subst, arith}
-use Rattle.std.proofs.lemmas.Bool.{cases_lt}
-use Rattle.std.proofs.lemmas.List.{append-nil, length-take, length-drop, take-append-drop, drop-drop, drop_all}
+use Rattle.std.proofs.Common.{◌≡◌, ◌⊎◌, inl, inr, ℕ, Option, None, List, length, take, refl, ◌∙◌, subst}
+use Rattle.pw_volume.proofs.Tears.{cut, lost as torn_lost, made as torn_made, uncut}
 use Rattle.pw_volume.specs.Crash.{written, Torn, Shortened}
 use Rattle.pw_file_disk.specs.FileDisk.{FileDiskState, MayMake, MayHaveMade, MayBeLeft}
 use Rattle.pw_file_disk.specs.declared.change.OpenChange.{OpenChange}
 use Rattle.pw_file_disk.specs.declared.change.OpenChange.TheVariants.{Wrote, Cut}
 
--- a write may be lost
-torn_lost : (at n : ℕ) (bytes : List ℕ) → Torn at n bytes bytes
-torn_lost at n bytes = record {
-  middle = take n (drop at bytes);
-  tail = [];
-  size = length-take n (drop at bytes) ∙ ap (min n) (length-drop at bytes);
-  is =
-      sym (take-append-drop at bytes)
-      ∙ ap (λ (l : List ℕ). take at bytes ++ l) (sym (take-append-drop n (drop at bytes)))
-      ∙ ap (λ (l : List ℕ). take at bytes ++ (take n (drop at bytes) ++ l)) (drop-drop n at bytes ∙ sym (append-nil (drop (at + n) bytes)));
-}
-
--- or it may be there
-torn_made : (at : ℕ) (piece bytes : List ℕ) → Torn at (length piece) bytes (written at piece bytes)
-torn_made at piece bytes =
-    let room = length bytes - at in
-    let past : drop (at + length piece) bytes ≡ [] ⊎ drop room piece ≡ [] = elim (cases_lt room (length piece)) [
-      | inl over ↦ inl (drop_all (at + length piece) bytes (omega arith))
-      | inr within ↦ inr (drop_all room piece within)
-    ] in
-    record {
-      middle = take room piece;
-      tail = drop room piece;
-      size = length-take room piece ∙ omega arith;
-      is = ap (λ (l : List ℕ). take at bytes ++ l) (⊎_elim
-          (λ (none : drop (at + length piece) bytes ≡ []). rw none (append-nil piece ∙ sym (take-append-drop room piece)))
-          (λ (none : drop room piece ≡ []). ap (λ (l : List ℕ). l ++ drop (at + length piece) bytes) (sym (take-append-drop room piece) ∙ ap (λ (l : List ℕ). take room piece ++ l) none ∙ append-nil (take room piece)) ∙ ap (λ (l : List ℕ). take room piece ++ l) (sym (append-nil (drop (at + length piece) bytes)) ∙ ap (λ (l : List ℕ). drop (at + length piece) bytes ++ l) (sym none)))
-          past);
-    }
-
 -- any change may be lost
 lost : (change : OpenChange) (bytes : List ℕ) → MayMake change bytes bytes
 lost (Wrote at n) bytes = torn_lost at n bytes
-lost (Cut n) bytes = record { tail = drop n bytes; is = sym (take-append-drop n bytes) }
+lost (Cut n) bytes = uncut n bytes
 
 -- the images of a disk with the same bytes and the same open change are among the old ones
 stays : (old : FileDiskState) (bytes settled synced : List ℕ) (change : Option OpenChange) → bytes ≡ old.bytes → settled ≡ old.settled → synced ≡ old.synced → change ≡ old.change
@@ -89,4 +58,4 @@ cut_stays n old bytes settled synced change same same_settled same_synced same_c
 
 pub cut_made : (n : ℕ) (old : FileDiskState) (bytes settled synced : List ℕ) → bytes ≡ take n old.bytes → settled ≡ old.settled → synced ≡ old.bytes
     → (image : List ℕ) → (image ≡ bytes) ⊎ (image ≡ settled) ⊎ Shortened n synced image → (before : List ℕ) × MayBeLeft old before × Shortened n before image
-cut_made n old bytes settled synced is = made (Cut n) old bytes settled synced (rw is (record { tail = []; is = sym (append-nil (take n old.bytes)) }))
+cut_made n old bytes settled synced is = made (Cut n) old bytes settled synced (rw is (cut n old.bytes))

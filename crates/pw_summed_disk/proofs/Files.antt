@@ -1,9 +1,9 @@
 -- What a summed disk has below, by its parts.
-use Rattle.std.proofs.Common.{◌≡◌, ℕ, ◌+◌, ◌<◌, ◌≤◌, min, List, [], ◌∷◌, ◌++◌, length, get_or, take, drop, None, refl, sym, ◌∙◌, ap, subst, arith, length-append, length-take, length-drop}
+use Rattle.std.proofs.Common.{◌≡◌, ℕ, ◌+◌, ◌<◌, ◌≤◌, List, [], ◌∷◌, ◌++◌, length, get_or, take, drop, None, refl, sym, ◌∙◌, ap, subst, arith, length-append, length-take}
 use Rattle.std.specs.Prelude.{Result, Ok}
 use Rattle.std.proofs.lemmas.Bool.Decides.{nat_tests}
 use Rattle.std.proofs.lemmas.List.{append-nil, append_assoc, drop-drop, drop_all, drop_at, get_or-drop, take-append-drop, take_all, take_at}
-use Rattle.pw_volume.specs.Crash.{written, Torn, Shortened}
+use Rattle.pw_volume.specs.Crash.{written, Torn}
 use Rattle.pw_summed_disk.specs.Extents.{content_of, piece_in, shut_gate, staged, word_of}
 use Rattle.pw_summed_disk.specs.Summed.{AreExtents, IsSummedFile, content, read_of}
 use Rattle.pw_summed_disk.proofs.Reading.{HasGate, closed, gate_word, has_gate}
@@ -61,22 +61,6 @@ module _ (gate end : ℕ) (front own rest bytes below : List ℕ) (are : AreExte
   }
 
 -- ---- steps of bytes
-
--- a write may be lost
-pub lost : (at n : ℕ) (bytes : List ℕ) → Torn at n bytes bytes
-lost at n bytes = record {
-  middle = take n (drop at bytes);
-  tail = [];
-  size = length-take n (drop at bytes) ∙ ap (min n) (length-drop at bytes);
-  is =
-      sym (take-append-drop at bytes)
-      ∙ ap (λ (l : List ℕ). take at bytes ++ l) (sym (take-append-drop n (drop at bytes)))
-      ∙ ap (λ (l : List ℕ). take at bytes ++ (take n (drop at bytes) ++ l)) (drop-drop n at bytes ∙ sym (append-nil (drop (at + n) bytes)));
-}
-
--- a cut too
-pub uncut : (n : ℕ) (bytes : List ℕ) → Shortened n bytes bytes
-uncut n bytes = record { tail = drop n bytes; is = sym (take-append-drop n bytes) }
 
 -- a write at the end leaves what stood there
 pub past_end : (at n : ℕ) (bytes image : List ℕ) → length bytes ≡ at → Torn at n bytes image → (tail : List ℕ) × (image ≡ bytes ++ tail)

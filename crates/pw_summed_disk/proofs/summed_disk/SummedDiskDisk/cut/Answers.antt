@@ -2,7 +2,8 @@
 use Rattle.std.proofs.Common.{rules, ◌≡◌, ◌+◌, take, sym, ◌∙◌, ap, refl}
 use Rattle.pw_volume.specs.Crash.{Shortened}
 use Rattle.pw_summed_disk.specs.Summed.{content}
-use Rattle.pw_summed_disk.proofs.Files.{file_content, uncut}
+use Rattle.pw_summed_disk.proofs.Files.{file_content}
+use Rattle.pw_volume.proofs.Tears.{uncut}
 use Rattle.pw_summed_disk.proofs.Images.{stays, step_images, step_whole}
 use Rattle.pw_summed_disk.proofs.Plans.{cut_left, cut_made}
 use Rattle.pw_summed_disk.proofs.summed_disk.SummedDiskDisk.cut.Goals as goal

@@ -4,7 +4,8 @@ use Rattle.std.specs.Prelude.{IfSome}
 use Rattle.pw_volume.specs.Crash.{Torn, written}
 use Rattle.pw_summed_disk.specs.Plans.{IsPlan}
 use Rattle.pw_summed_disk.specs.Summed.{KeepsSummed, content}
-use Rattle.pw_summed_disk.proofs.Files.{file_content, lost}
+use Rattle.pw_summed_disk.proofs.Files.{file_content}
+use Rattle.pw_volume.proofs.Tears.{lost}
 use Rattle.pw_summed_disk.proofs.Images.{stays, written_images, written_is, written_keeps, written_whole}
 use Rattle.pw_summed_disk.proofs.Plans.{plan_past, staged_within}
 use Rattle.pw_summed_disk.proofs.summed_disk.SummedDiskDisk.write_at.Goals as goal
