@@ -1,5 +1,5 @@
 -- What is kept, where a message goes to a backup, and where it is taken in.
-use Rattle.std.proofs.Common.{◌≡◌, ℕ, Bool, true, false, List, [], ◌∷◌, map, Option, Some, None, if◌then◌else◌, ◌∙◌, refl, sym, ap, ap₂, subst}
+use Rattle.std.proofs.Common.{◌≡◌, ℕ, Bool, true, false, List, [], ◌∷◌, Option, Some, None, if◌then◌else◌, ◌∙◌, refl, sym, ap, ap₂, subst}
 use Rattle.std.specs.Option.{is_some, option_map}
 use Rattle.std.specs.Prelude.{find}
 use Rattle.std.proofs.lemmas.Bool.{not-false}
@@ -15,7 +15,7 @@ use Rattle.pw_image.specs.Reading.{context_in}
 use Rattle.pw_image.proofs.ImageForms.{read-again}
 use Rattle.pw_world_state.specs.Asked.{answered_with, verb_in}
 use Rattle.pw_world_state.specs.Changes.{at_pair, kept_applied, kept_check}
-use Rattle.pw_world_state.specs.Entered.{answering, closing_context, entered_check_end, image_message, send_image, tcp_of, verb_of}
+use Rattle.pw_world_state.specs.Entered.{answering, closing_context, image_message, send_image, tcp_of, verb_of}
 use Rattle.pw_world_state.specs.Kept.{Kept, KeptTerminal}
 use Rattle.pw_world_state.specs.TerminalTests.{closing}
 use Rattle.pw_pair.specs.Bodies.{is_image}

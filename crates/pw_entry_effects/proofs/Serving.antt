@@ -2,7 +2,6 @@
 use Rattle.std.proofs.Common.{◌≡◌, ℕ, true, List, [], length, Option, Some, None, ◌∙◌, refl, sym, ap, arith}
 use Rattle.std.proofs.lemmas.Bool.{both_ways}
 use Rattle.pw_entry_effects.specs.Can.{CanOperate}
-use Rattle.pw_class.specs.Queue.{at_process}
 use Rattle.pw_class.specs.declared.request.Request.{Request}
 use Rattle.pw_code.specs.declared.context.Context.{Context}
 use Rattle.pw_code.specs.declared.system.System.{System}
@@ -14,7 +13,7 @@ use Rattle.pw_code_meaning.specs.OfSystem.{file_told}
 use Rattle.pw_world_store.specs.Calls.{IsOperated, MayOperate}
 use Rattle.pw_world_store.specs.Keeps.{IsRefused, IsVerbOf, JobHasVerb, KeepState, job_of, jobs_at, kept_in}
 use Rattle.pw_world_state.specs.Asked.{answered_with, verb_in}
-use Rattle.pw_world_state.specs.Changes.{kept_file, unit_at, with_job}
+use Rattle.pw_world_state.specs.Changes.{kept_file, with_job}
 use Rattle.pw_world_state.specs.Entered.{entered_file, file_at, file_by}
 use Rattle.pw_world_state.specs.Kept.{Kept}
 use Rattle.pw_locks.specs.Oldest.{IsOldest}

@@ -14,7 +14,7 @@ use Rattle.pw_code.specs.declared.system.ClassInfo.{ClassInfo}
 use Rattle.pw_code.specs.declared.system.System.{System}
 use Rattle.pw_event.specs.Line.{HasLine, IsNamed, IsPlain, IsTold, LineWord, cause_words, ending_words, event_words, no_class, reply_words, with_mode}
 use Rattle.pw_event.specs.Line as line
-use Rattle.pw_event.specs.Line.{FileName, Plain, Code}
+use Rattle.pw_event.specs.Line.{Plain}
 use Rattle.pw_event.specs.declared.event.Cause.{Cause}
 use Rattle.pw_event.specs.declared.event.Cause.TheVariants as cause
 use Rattle.pw_event.specs.declared.event.Ending.{Ending}
@@ -32,7 +32,7 @@ use Rattle.pw_onecopy.specs.Behaviour.{Behaviour}
 use Rattle.pw_onecopy.specs.IsBehaviour.{IsBehaviour, IsPath}
 use Rattle.pw_onecopy.specs.Operation.{plain_op}
 use Rattle.pw_paired.specs.End.{LegalEnd}
-use Rattle.pw_paired.specs.Failure.{Holds, IsCaused}
+use Rattle.pw_paired.specs.Failure.{IsCaused}
 use Rattle.pw_paired.specs.Server.{LegalFile, LegalReply, LegalTake}
 use Rattle.pw_paired.specs.State.{OpenUnit, State, starting}
 use Rattle.pw_paired.specs.Step.{IsRun, Legal, after}

@@ -1,5 +1,5 @@
 -- In every run each block of the serial order has a line.
-use Rattle.std.proofs.Common.{◌≡◌, ℕ, zero, suc, ◌<◌, Bool, true, false, ◌&&◌, List, [], ◌∷◌, ◌++◌, map, length, Option, Some, None, is_none, if◌then◌else◌, refl, sym, ap, subst, ◌∙◌, arith}
+use Rattle.std.proofs.Common.{ℕ, zero, suc, ◌<◌, Bool, true, false, List, [], ◌∷◌, ◌++◌, map, length, Option, Some, None, is_none, if◌then◌else◌, sym, subst, arith}
 use Rattle.std.specs.Prelude.{All}
 use Rattle.std.specs.List.{AllByRecursion}
 use Rattle.pw_code.specs.declared.system.System.{System}
@@ -21,9 +21,9 @@ use Rattle.pw_serial_order.specs.Order.{blocks_behind, entry_order, last_order, 
 use Rattle.pw_serial_order.specs.Shadow.{reading_after}
 use Rattle.pw_serial_order.specs.declared.block.Block.{Block}
 use Rattle.pw_paired.specs.Failure.{is_of_pair}
-use Rattle.pw_paired.specs.Serial.{Reading, blocks, blocks_of, is_idle, left_block, left_blocks, makes_gone, out_block, reading_starts, reply_commits}
+use Rattle.pw_paired.specs.Serial.{Reading, blocks, blocks_of, left_block, left_blocks, reading_starts, reply_commits}
 use Rattle.pw_paired.specs.State.{OpenUnit, State, starting}
-use Rattle.pw_paired.specs.Step.{IsRun, Legal, after, effect}
+use Rattle.pw_paired.specs.Step.{IsRun, Legal, after}
 use Rattle.pw_paired.specs.Step as step
 use Rattle.pw_paired.specs.Terminal.{path_of}
 use Rattle.pw_laws.proofs.induction.Runs as runs

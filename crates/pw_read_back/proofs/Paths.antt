@@ -26,7 +26,7 @@ use Rattle.pw_paired.specs.Failure.{is_live_of, is_of_pair, resume_terminal, wit
 use Rattle.pw_paired.specs.Raising.{copied_path, with_message}
 use Rattle.pw_paired.specs.Server.{LegalReply, server_verb}
 use Rattle.pw_paired.specs.State.{BackupCopy, Copy, End, LastEnded, Message, OpenUnit, Start, State, Term}
-use Rattle.pw_paired.specs.Step.{IsRun, Legal, after, effect}
+use Rattle.pw_paired.specs.Step.{IsRun, after, effect}
 use Rattle.pw_paired.specs.Step as step
 use Rattle.pw_paired.specs.Terminal.{begun_path, closed_path, closing_answer, next_verb, path_of, path_with, unit_with_attempt}
 use Rattle.pw_paired.specs.Units.{attempt_of, only, restarts_of}
@@ -36,7 +36,7 @@ use Rattle.pw_laws.proofs.induction.Failed.{end-any, fail-cases, process-cases}
 use Rattle.pw_laws.proofs.induction.Runs as runs
 use Rattle.pw_laws.proofs.induction.Served.{fault-verb, file-cases, reply-cases}
 use Rattle.pw_read_back.proofs.Faults as faults
-use Rattle.pw_read_back.proofs.Faults.{IsSmall, IsTold}
+use Rattle.pw_read_back.proofs.Faults.{IsTold}
 
 -- ---- what programs ask
 

@@ -1,5 +1,5 @@
 -- In every run a pending TAKEOVER names a pair of the system.
-use Rattle.std.proofs.Common.{◌≡◌, ◌≢◌, ℕ, ◌<◌, ◌==◌, ◌&&◌, Bool, true, false, is_some, List, [], Option, Some, None, if◌then◌else◌, refl, sym, ap, subst, ◌∙◌}
+use Rattle.std.proofs.Common.{◌≡◌, ℕ, ◌<◌, Bool, true, false, List, [], Option, Some, None, if◌then◌else◌, refl, sym, subst}
 use Rattle.pw_event.specs.declared.event.Cause.{Cause}
 use Rattle.pw_event.specs.declared.event.Cause.TheVariants as cause
 use Rattle.pw_event.specs.declared.event.Event.{Event}
@@ -12,7 +12,7 @@ use Rattle.pw_onecopy.specs.Path.{PathAnswer}
 use Rattle.pw_onecopy.specs.Update.{upd}
 use Rattle.pw_paired.specs.Failure.{LegalTakeover, is_live_of, is_of_pair, resume_terminal, runs_unit, with_start_path}
 use Rattle.pw_paired.specs.State.{BackupCopy, LastEnded, OpenUnit, State, Term}
-use Rattle.pw_paired.specs.Step.{IsRun, Legal, after, change, effect}
+use Rattle.pw_paired.specs.Step.{IsRun, after, effect}
 use Rattle.pw_paired.specs.Step as step
 use Rattle.pw_paired.specs.Units.{attempt_of}
 use Rattle.pw_laws.proofs.induction.Failed.{end-any, fail-cases, process-cases}

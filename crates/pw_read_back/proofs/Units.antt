@@ -12,7 +12,7 @@ use Rattle.pw_paired.specs.Units.{last_after_leaving}
 use Rattle.pw_laws.proofs.induction.Moving.{TermAt, carried_view, holds-of-terms}
 use Rattle.pw_laws.proofs.induction.Runs.{carried_from, kept}
 use Rattle.pw_laws.proofs.induction.Views as move
-use Rattle.pw_laws.proofs.induction.Views.{Able, Moves, View, Waits, path_in, view_of}
+use Rattle.pw_laws.proofs.induction.Views.{Able, Moves, View, path_in}
 use Rattle.pw_laws.proofs.kept.Kept.{Inv}
 use Rattle.pw_laws.proofs.terms.TermOk.{IsWorking, PathOf, PathOk}
 

@@ -1,14 +1,14 @@
 -- Records of several units that are put behind a trail together.
-use Rattle.std.proofs.Common.{◌≡◌, ◌≢◌, ◌⊎◌, inl, inr, ℕ, ◌+◌, ◌^◌, ◌<◌, ◌≤◌, List, [], ◌∷◌, ◌++◌, length, take, drop, All, Some, true, refl, sym, ◌∙◌, ap, subst, arith, length-append}
+use Rattle.std.proofs.Common.{◌≡◌, ◌≢◌, ◌⊎◌, inl, inr, ℕ, ◌+◌, ◌^◌, ◌<◌, ◌≤◌, List, [], ◌∷◌, ◌++◌, length, take, drop, All, true, refl, sym, ◌∙◌, ap, subst, arith, length-append}
 use Rattle.std.specs.Prelude.{Result, Ok}
 use Rattle.std.proofs.lemmas.Bool.{cases_eq}
-use Rattle.std.proofs.lemmas.List.{append-nil, append_assoc, take_at}
+use Rattle.std.proofs.lemmas.List.{append-nil, append_assoc}
 use Rattle.pw_code.specs.declared.file.FileInfo.{FileInfo}
 use Rattle.pw_volume.specs.Crash.{Only}
-use Rattle.pw_trail.specs.Body.{body_of, fits, unit_in}
+use Rattle.pw_trail.specs.Body.{body_of, fits}
 use Rattle.pw_trail.specs.Format.{framed, units_from, units_in, with_units}
 use Rattle.pw_trail.specs.Groups.{AreRecordsBehind, IsGroup, units_of}
-use Rattle.pw_trail.specs.Stored.{AreRecords, IsBehind, IsGated, IsSynced, Keeps, staged, those, with_earlier_units}
+use Rattle.pw_trail.specs.Stored.{AreRecords, IsBehind, IsGated, IsSynced, Keeps, staged, with_earlier_units}
 use Rattle.pw_trail.specs.Values.{UnitChangesHaveValues}
 use Rattle.pw_trail.specs.declared.changes.UnitChanges.{UnitChanges}
 use Rattle.pw_trail.proofs.BodyForms.{unit_again}

@@ -1,9 +1,7 @@
-use Rattle.std.proofs.Common.{◌≡◌, ◌∙◌, ℕ, Option, Some, None, refl, sym, ap, subst, rules}
+use Rattle.std.proofs.Common.{ℕ, Option, Some, None, sym, ap, subst, rules}
 use Rattle.pw_base.proofs.Plain.{on-ok}
-use Rattle.pw_code.specs.declared.verb.Answer.TheVariants as answer
 use Rattle.pw_world_store.specs.Keeps.{kept_in}
-use Rattle.pw_world_state.specs.Changes.{free_process}
-use Rattle.pw_world_state.specs.Entered.{answer_terminal, entered_reply}
+use Rattle.pw_world_state.specs.Entered.{entered_reply}
 use Rattle.pw_world_state.specs.Kept.{Kept}
 use Rattle.pw_entry_effects.specs.Can.{CanReply}
 use Rattle.pw_entry_effects.proofs.Changing.{changed-alike}

@@ -1,9 +1,7 @@
-use Rattle.std.proofs.Common.{◌∙◌, ℕ, Option, Some, None, sym, ap, subst, rules}
+use Rattle.std.proofs.Common.{◌∙◌, ℕ, None, sym, ap, subst, rules}
 use Rattle.pw_base.proofs.Plain.{on-ok}
-use Rattle.pw_code.specs.declared.context.Context.{Context}
-use Rattle.pw_code.specs.declared.verb.Answer.TheVariants as answer
 use Rattle.pw_world_store.specs.Keeps.{kept_in}
-use Rattle.pw_world_state.specs.Changes.{free_process, unit_at}
+use Rattle.pw_world_state.specs.Changes.{unit_at}
 use Rattle.pw_world_state.specs.Entered.{entered_reply, replies_last, replies_to}
 use Rattle.pw_world_state.specs.Kept.{Kept}
 use Rattle.pw_tmf.specs.Units.{IsRunning}

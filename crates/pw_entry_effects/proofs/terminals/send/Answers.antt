@@ -1,7 +1,4 @@
-use Rattle.std.proofs.Common.{List, ℕ, Option, ◌∙◌, ap}
-use Rattle.std.specs.Option.{option_map}
 use Rattle.pw_base.proofs.Plain.{on-ok}
-use Rattle.pw_code.specs.declared.context.Context.{Context}
 use Rattle.pw_world_store.specs.Keeps.{kept_in}
 use Rattle.pw_world_state.specs.Changes.{kept_send}
 use Rattle.pw_world_state.specs.Entered.{entered_send}

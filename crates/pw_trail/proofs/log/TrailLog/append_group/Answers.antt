@@ -1,5 +1,5 @@
 -- A group that was stored is kept.
-use Rattle.std.proofs.Common.{rules, ◌≡◌, ◌+◌, ◌≤◌, ℕ, length, inl, inr}
+use Rattle.std.proofs.Common.{rules, ◌≡◌, ◌+◌, length}
 use Rattle.pw_trail.proofs.Groups.{append-group-holds, append-group-images, append-group-kept, append-group-leaves}
 use Rattle.pw_trail.proofs.log.TrailLog.append_group.Goals as goal
 
