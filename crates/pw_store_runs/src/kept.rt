@@ -1,18 +1,11 @@
 //! The run of a system over the trail of a store.
 
-ghost use Rattle.std.specs.Prelude.{◌≡◌, ◌≤◌, [], IfOk, Ok, length};
+ghost use Rattle.std.specs.Prelude.{◌≡◌, ◌≤◌, [], IfOk, Ok};
 ghost use Rattle.pw_code_meaning.specs.OfSystem.{behaviour};
-ghost use Rattle.pw_group_commit.specs.Discs.{told_in};
-ghost use Rattle.pw_paired.specs.Step.{IsRun};
-ghost use Rattle.pw_paired.specs.Units.{committed_files};
 ghost use Rattle.pw_store_runs.specs.Left.{RunsStored};
-ghost use Rattle.pw_tmf.specs.Committed.{committed};
 ghost use Rattle.pw_tmf.specs.Faulty.{with_faults};
 ghost use Rattle.pw_tmf.specs.Tmf.{told_of};
 ghost use Rattle.pw_trail.specs.Calls.{DiskHoldsUnits, moment};
-ghost use Rattle.pw_world.specs.States.{seen};
-ghost use Rattle.pw_world_model.specs.Commits.{commits_in};
-ghost use Rattle.pw_world_model.specs.Seen.{state_of, sys_of};
 ghost use Rattle.pw_world_model.specs.Worlds.{IsDiscOf};
 
 use crate::ending::Stored;
@@ -21,15 +14,13 @@ use pw_group_commit::follower::Follower;
 use pw_group_commit::group_log::LogNaming;
 use pw_group_commit::group_trail::GroupTrail;
 use pw_report::report::report;
-use pw_tmf::laws::committed_laws;
+use pw_report::taken::disc_of;
 use pw_trail::synced::Synced;
 use pw_trail::trail::Trail;
 use pw_volume::fault::WriteFault;
 use pw_workers::bounds::RunBounds;
 use pw_workers::gate::Gate;
 use pw_workers::over::{RunEnding, run_over};
-use pw_world::world::World;
-use pw_world_state::runs::run_laws;
 use pw_world_state::setup::Setup;
 use std::alloc::Global;
 use std::sync::Wait;
@@ -89,25 +80,6 @@ pub fn run_kept<
             Ok(Stored::Failed(disk, follower))
         }
     }
-}
-
-/// The disc of a world. What it tells as committed are the committed records behind the log, and it has counted the units
-/// that commit in the log.
-fn disc_of<S: Synced + Send, N: LogNaming + Send + Sync, F: Follower + Send>(
-    world: World<GroupTrail<S, N, F>>,
-) -> GroupTrail<S, N, F>
-    ensures told { told_in result ≡ (seen told_in world).kept.disc }
-    ensures committed { committed (told_in result)
-        ≡ committed_files (sys_of (seen told_in world)) (state_of (seen told_in world)) }
-    ensures run { IsRun (sys_of (seen told_in world)) (seen told_in world).log }
-    ensures room { length (seen told_in world).log ≤ (seen told_in world).limit }
-    ensures commits { (seen told_in world).kept.disc.commits
-        ≡ commits_in (sys_of (seen told_in world)) (seen told_in world).log }
-{
-    world.holds();
-    run_laws();
-    committed_laws();
-    world.into_disc()
 }
 
 /// Shows that a crash may leave what the last sync left. It does nothing.

@@ -17,14 +17,13 @@ ghost use Rattle.pw_tmf.specs.Tmf.{told_of};
 use crate::recovery::ending::{Recovered, of_ended};
 use crate::recovery::kept::{KeptTrail, TrailNaming};
 use pw_base::memory::Memory;
-use pw_tmf::laws::committed_laws;
+use pw_report::taken::disc_of;
 use pw_trail::synced::Synced;
 use pw_trail::trail::Trail;
 use pw_workers::bounds::RunBounds;
 use pw_workers::gate::Gate;
 use pw_workers::over::{RunEnding, run_over};
 use pw_world::world::World;
-use pw_world_state::runs::run_laws;
 use pw_world_state::setup::Setup;
 use std::alloc::Global;
 use std::sync::Wait;
@@ -43,10 +42,7 @@ pub fn trail_of<S: Synced + Send, N: TrailNaming>(world: World<KeptTrail<S, N>>)
     ensures commits { (seen told_in world).kept.disc.commits
         ≡ commits_in (sys_of (seen told_in world)) (seen told_in world).log }
 {
-    world.holds();
-    run_laws();
-    committed_laws();
-    world.into_disc().into_trail()
+    disc_of(world).into_trail()
 }
 
 /// Runs a setup within bounds over a trail: how the run ended, and the trail as it left it. Where the disk

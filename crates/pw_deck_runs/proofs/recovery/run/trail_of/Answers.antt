@@ -1,30 +1,18 @@
 use Rattle.std.proofs.Common.{◌∙◌, ap, sym, subst}
-use Rattle.pw_world.specs.States.{seen}
-use Rattle.pw_world_model.specs.Seen.{state_of, sys_of}
-use Rattle.pw_report.proofs.Committing.{images-there}
-use Rattle.pw_deck_runs.specs.recovery.Kept.{IsKept, TrailState, told_in}
+use Rattle.pw_deck_runs.specs.recovery.Kept.{IsKept, told_in}
 use Rattle.pw_tmf.specs.Committed.{committed}
 use Rattle.pw_tmf.specs.Told.{Told}
 use Rattle.pw_deck_runs.proofs.recovery.run.trail_of.Goals as goal
 
 pub returns : goal.returns
 returns g c =
-    let world = seen told_in c.args.world in
-    let sys = sys_of world in
-    let state : TrailState g.row.S.Denot = c.into_disc.result in
-    let told = ap told_in c.into_trail.ensures.is ∙ ap told_in c.into_disc.ensures in
-    let leaves = c.run_laws.ensures.leaves sys c.holds.ensures.deck world.log c.holds.ensures.run in
-    let knows = c.run_laws.ensures.knows sys c.holds.ensures.deck world.log c.holds.ensures.run in
-    let tells = c.holds.ensures.stands.disc in
-    let there = images-there sys (state_of world) world.kept.disc tells knows c.holds.ensures.terminals in
+    let same = ap told_in c.into_trail.ensures.is in
     record {
       kept = subst (IsKept g.S.Synced.held g.S.Synced.images g.S.Synced.settled g.S.Synced.lasts g.N.TrailNaming.files
           g.N.TrailNaming.before g.N.TrailNaming.life) (sym c.into_trail.ensures.is) c.into_trail.ensures.keeps;
-      told = told;
-      committed =
-          ap (λ (t : Told). committed t) told
-          ∙ c.committed_laws.ensures sys (state_of world) world.kept.disc tells leaves.keyed leaves.single there;
-      run = c.holds.ensures.run;
-      room = c.holds.ensures.room;
-      commits = c.holds.ensures.commits;
+      told = same ∙ c.disc_of.ensures.told;
+      committed = ap (λ (t : Told). committed t) same ∙ c.disc_of.ensures.committed;
+      run = c.disc_of.ensures.run;
+      room = c.disc_of.ensures.room;
+      commits = c.disc_of.ensures.commits;
     }
