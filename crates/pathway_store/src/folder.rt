@@ -28,6 +28,8 @@ use pw_summed_disk::summed_disk::SummedDisk;
 use pw_volume::disk::Disk;
 use pw_workers::gate::NoGate;
 use std::alloc::Global;
+use std::io::Stdout;
+use std::marker::Brand;
 use std::sync::Wait;
 use std::thread::Threads;
 
@@ -91,7 +93,8 @@ fn run_deck<S: Source, R: Threads + Wait + Sync>(
         )?;
         return Ok((number, text));
     }
-    let follower = LineFollower::new(alloc, WriteSink::new(host.stdout()), terminals);
+    let sink = WriteSink::new(host.stdout());
+    let follower = LineFollower::<WriteSink<Stdout>, Brand>::new(alloc, sink, terminals);
     let (number, text, follower) = run_followed(
         rt,
         host,

@@ -1,3 +1,4 @@
 mod Following
 mod Grouping
 mod Telling
+mod Writing

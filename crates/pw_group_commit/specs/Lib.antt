@@ -1,3 +1,4 @@
 pub mod Discs
 pub mod Followed
 pub mod Grouped
+pub mod Lines
