@@ -20,6 +20,7 @@ use pw_group_commit::follower::{Follower, NoFollower};
 use pw_group_commit::lines::{LineFault, LineFollower};
 use pw_input_output::input::read_input;
 use pw_input_output::status::Status;
+use pw_store_runs::asked::FollowedRun;
 use pw_store_runs::ending::{StoreFault, Stored};
 use pw_store_runs::store::run_stored;
 use pw_summed_disk::extent::{SHUT, piece_in, seal};
@@ -125,16 +126,12 @@ fn run_followed<F: Follower + Send, R: Threads + Wait + Sync>(
     let first = first_deck(host, alloc, folder, deck)?;
     let file = open(host, alloc, folder, "trail", &SHUT).map_err(StoreCallFault::Opening)?;
     let disk = summed(alloc, file)?;
-    match run_stored(
-        rt,
-        alloc,
-        first.as_slice(),
-        deck,
-        disk,
+    let run = FollowedRun {
+        bounds: words.bounds,
+        gate: &NoGate,
         follower,
-        words.bounds,
-        &NoGate,
-    ) {
+    };
+    match run_stored(rt, alloc, first.as_slice(), deck, disk, run) {
         Ok(Stored::Ended(ended, text, _disk, follower)) => {
             Ok((ended.status().number(), text, follower))
         }

@@ -8,6 +8,7 @@ ghost use Rattle.pw_tmf.specs.Tmf.{told_of};
 ghost use Rattle.pw_trail.specs.Calls.{DiskHoldsUnits, moment};
 ghost use Rattle.pw_world_model.specs.Worlds.{IsDiscOf};
 
+use crate::asked::FollowedRun;
 use crate::ending::Stored;
 use pw_base::memory::Memory;
 use pw_group_commit::follower::Follower;
@@ -18,7 +19,6 @@ use pw_report::taken::disc_of;
 use pw_trail::synced::Synced;
 use pw_trail::trail::Trail;
 use pw_volume::fault::WriteFault;
-use pw_workers::bounds::RunBounds;
 use pw_workers::gate::Gate;
 use pw_workers::over::{RunEnding, run_over};
 use pw_world_state::setup::Setup;
@@ -26,7 +26,7 @@ use std::alloc::Global;
 use std::sync::Wait;
 use std::thread::Threads;
 
-/// Runs a setup within bounds over a trail (docs/STORE.md): how the run ended, with the report of its log, and the disk and the
+/// Runs a setup over a trail as it is asked (docs/STORE.md): how the run ended, with the report of its log, and the disk and the
 /// follower as it left them. It may wait for a thread.
 pub fn run_kept<
     S: Synced + Send,
@@ -39,9 +39,7 @@ pub fn run_kept<
     alloc: Global,
     setup: Setup,
     trail: Trail<S>,
-    follower: F,
-    bounds: RunBounds,
-    gate: &G,
+    run: FollowedRun<'_, F, G>,
 ) -> Result<Stored<S, F>, Memory>
     requires disc { IsDiscOf setup.system setup.script (with_faults trail.faults (told_of trail.tmf)) }
     requires files { trail.log.files ≡ N.files }
@@ -49,10 +47,15 @@ pub fn run_kept<
         (Ok N.before) }
     requires count { N.least ≤ S.faulted trail.log.disk }
     requires faults { trail.faults ≡ 0 }
-    requires told { F.was_told follower [] }
+    requires told { F.was_told run.follower [] }
     ensures { IfOk result (RunsStored S.images S.faulted F.was_told N.files N.before N.least (behaviour setup.script setup.system)
-        setup.system bounds.events) }
+        setup.system run.entry.bounds.events) }
 {
+    let FollowedRun {
+        bounds,
+        gate,
+        follower,
+    } = run;
     let disc: GroupTrail<S, N, F> = GroupTrail::new(trail, follower)?;
     let over = run_over(rt, alloc, setup, disc, bounds, gate)?;
     match over {

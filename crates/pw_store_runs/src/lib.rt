@@ -3,6 +3,7 @@
 //! docs/STORE.md has the rules.
 #![tactic(auto)]
 
+pub mod asked;
 pub mod ending;
 pub mod first;
 pub mod kept;

@@ -3,6 +3,7 @@
 ghost use Rattle.std.specs.Prelude.{◌≡◌, [], IfErr, IfOk};
 ghost use Rattle.pw_store_runs.specs.Stores.{RefusesStore, StoreRuns, deck_refused, first_refused};
 
+use crate::asked::{FollowedRun, StoreParts};
 use crate::ending::{StoreFault, Stored};
 use crate::first::first_files;
 use crate::system::run_system;
@@ -16,13 +17,12 @@ use pw_records::alike::are_alike;
 use pw_records::laws::record_laws;
 use pw_report::taken::let_go;
 use pw_volume::disk::Disk;
-use pw_workers::bounds::RunBounds;
 use pw_workers::gate::Gate;
 use std::alloc::Global;
 use std::sync::Wait;
 use std::thread::Threads;
 
-/// Runs the deck of these bytes within bounds over a store (docs/STORE.md): the bytes of the deck with which it began, and
+/// Runs the deck of these bytes over a store as it is asked (docs/STORE.md): the bytes of the deck with which it began, and
 /// the disk with its trail. How the run ended, with its report, and the disk and the follower as it left them. It may wait for a
 /// thread.
 ///
@@ -36,13 +36,11 @@ pub fn run_stored<D: Disk, F: Follower + Send, G: Gate, R: Threads + Wait + Sync
     first: &[u8],
     bytes: &[u8],
     disk: D,
-    follower: F,
-    bounds: RunBounds,
-    gate: &G,
+    run: FollowedRun<'_, F, G>,
 ) -> Result<Stored<D, F>, StoreFault<D>>
-    requires told { F.was_told follower [] }
+    requires told { F.was_told run.follower [] }
     ensures runs { IfOk result (StoreRuns D.may_leave D.faults F.was_told first.now (D.bytes disk) (D.faults disk)
-        bytes.now bounds.events) }
+        bytes.now run.entry.bounds.events) }
     ensures fault { IfErr result (RefusesStore D.faults first.now (D.bytes disk) (D.faults disk) bytes.now) }
 {
     runs_keep_their_promises();
@@ -64,9 +62,8 @@ pub fn run_stored<D: Disk, F: Follower + Send, G: Gate, R: Threads + Wait + Sync
         let_go(system);
         return Err(StoreFault::OtherFiles);
     }
-    run_system(
-        rt, alloc, system, script, files, disk, follower, bounds, gate,
-    )
+    let store = StoreParts { files, disk };
+    run_system(rt, alloc, system, script, store, run)
 }
 
 /// The fault of a deck that was not read.

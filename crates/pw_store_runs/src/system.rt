@@ -11,13 +11,12 @@ ghost use Rattle.pw_deck_runs.specs.recovery.Kept.{trail_state};
 ghost use Rattle.pw_store_runs.specs.Refusals.{RefusesTrail};
 ghost use Rattle.pw_store_runs.specs.Systems.{BeginsStored, RunsOverTrail};
 
+use crate::asked::{FollowedRun, StoreParts};
 use crate::ending::{StoreFault, Stored};
 use crate::kept::{know_last, run_kept};
 use crate::opened::opened;
-use pw_base::list::List;
 use pw_base::memory::Memory;
 use pw_code::copies::Duplicate;
-use pw_code::file::FileInfo;
 use pw_code::system::System;
 use pw_deck_runs::setups::setup_of;
 use pw_event::script::Script;
@@ -27,40 +26,36 @@ use pw_records::with_records::{with_files, with_records};
 use pw_report::taken::let_go;
 use pw_trail::trail::Trail;
 use pw_volume::disk::Disk;
-use pw_workers::bounds::RunBounds;
 use pw_workers::gate::Gate;
 use std::alloc::Global;
 use std::marker::Brand;
 use std::sync::Wait;
 use std::thread::Threads;
 
-/// Runs a system within bounds over the trail on a disk (docs/STORE.md), whose files have the names and keys of the
-/// system's: how the run ended, with its report, and the disk and
-/// the follower as it left them. The records that the trail leads to take the
-/// place of the system's. It may wait for a thread.
+/// Runs a system over a store as it is asked (docs/STORE.md), whose files have the names and keys of the system's: how the run
+/// ended, with its report, and the disk and the follower as it left them. The records that the trail leads to take the place of
+/// the system's. It may wait for a thread.
 pub fn run_system<D: Disk, F: Follower + Send, G: Gate, R: Threads + Wait + Sync>(
     rt: &R,
     alloc: Global,
     system: System,
     script: Script,
-    files: List<FileInfo>,
-    disk: D,
-    follower: F,
-    bounds: RunBounds,
-    gate: &G,
+    store: StoreParts<D>,
+    run: FollowedRun<'_, F, G>,
 ) -> Result<Stored<D, F>, StoreFault<D>>
     requires valid { IsValid system }
     requires behaves { IsBehaviour (behaviour script.lines system) }
     requires lines { All (IsFailNamed system) script.lines }
     requires few { length script.lines ≤ most_fail_lines }
-    requires alike { AreAlike files system.files }
-    requires files { All IsDeckFile files }
-    requires told { F.was_told follower [] }
-    ensures runs { IfOk result (RunsOverTrail D.may_leave D.faults F.was_told files (D.bytes disk) (D.faults disk)
-        script.lines system bounds.events) }
-    ensures fault { IfErr result (RefusesTrail D.faults (D.faults disk) files (D.bytes disk)) }
+    requires alike { AreAlike store.files system.files }
+    requires files { All IsDeckFile store.files }
+    requires told { F.was_told run.follower [] }
+    ensures runs { IfOk result (RunsOverTrail D.may_leave D.faults F.was_told store.files (D.bytes store.disk)
+        (D.faults store.disk) script.lines system run.entry.bounds.events) }
+    ensures fault { IfErr result (RefusesTrail D.faults (D.faults store.disk) store.files (D.bytes store.disk)) }
 {
     record_laws();
+    let StoreParts { files, disk } = store;
     let Ok(copy) = system.copy(alloc) else {
         let_go(system);
         return Err(StoreFault::Memory);
@@ -72,9 +67,7 @@ pub fn run_system<D: Disk, F: Follower + Send, G: Gate, R: Threads + Wait + Sync
     match ready {
         Ok((now, trail)) => {
             let setup = setup_of(now, script);
-            let ran = run_kept::<D, Brand, F, G, R>(
-                rt, alloc, setup, trail, follower, bounds, gate,
-            );
+            let ran = run_kept::<D, Brand, F, G, R>(rt, alloc, setup, trail, run);
             match ran {
                 Ok(stored) => Ok(stored),
                 Err(Memory) => Err(StoreFault::Memory),

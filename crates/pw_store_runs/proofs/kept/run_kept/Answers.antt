@@ -19,12 +19,12 @@ returns-in-Ok-text g c =
     let last = c.disc_of-disc.ensures in
     let told = c.flush.ensures.told in
     let sys = behaviour c.args.setup.script c.args.setup.system in
-    subst (λ (disk : g.row.S.Denot). RanStored g.N.LogNaming.files g.N.LogNaming.before sys c.args.setup.system c.args.bounds.events
+    subst (λ (disk : g.row.S.Denot). RanStored g.N.LogNaming.files g.N.LogNaming.before sys c.args.setup.system c.args.run.bounds.events
     c.in-Ended.ended c.in-Ok-text.text (g.S.Synced.images disk)
     (g.F.Follower.was_told c.close-disk.result.1)) (sym c.close-disk.ensures.disk)
     (ran-stored g.S.Synced.held g.S.Synced.images g.S.Synced.settled g.S.Synced.faulted g.N.LogNaming.files g.N.LogNaming.before g.N.LogNaming.least
-    c.flush.new.self c.close-disk.ensures.log c.close-disk.ensures.keeps (g.F.Follower.was_told c.close-disk.result.1) c.close-disk.ensures.told c.args.setup.system c.args.setup.script c.args.bounds.events
-    (told_in c.in_ok-disc.disc).faults c.args.bounds.room (seen told_in c.in-Ended.world) leaves.0 last.run (told ∙ last.told)
+    c.flush.new.self c.close-disk.ensures.log c.close-disk.ensures.keeps (g.F.Follower.was_told c.close-disk.result.1) c.close-disk.ensures.told c.args.setup.system c.args.setup.script c.args.run.bounds.events
+    (told_in c.in_ok-disc.disc).faults c.args.run.bounds.room (seen told_in c.in-Ended.world) leaves.0 last.run (told ∙ last.told)
     (ap (λ (t : Told). committed t) told ∙ last.committed) last.room last.commits c.in-Ok.ensures.ok.0 c.in-Ok.ensures.ok.1
     c.in-Ended.ended c.in-Ok-text.text leaves.1 c.in-Ok-text.ensures)
 
@@ -39,8 +39,8 @@ returns-in-Err-Failed g c =
     (g.F.Follower.was_told c.close-disk-in-Err-Failed.result.1) g.N.LogNaming.least (g.S.Synced.faulted disk)) (sym c.close-disk-in-Err-Failed.ensures.disk)
     (stopped-stored g.S.Synced.held g.S.Synced.images g.S.Synced.settled g.S.Synced.faulted g.N.LogNaming.files g.N.LogNaming.before g.N.LogNaming.least
     c.flush.new.self c.close-disk-in-Err-Failed.ensures.log c.close-disk-in-Err-Failed.ensures.keeps
-    (g.F.Follower.was_told c.close-disk-in-Err-Failed.result.1) c.close-disk-in-Err-Failed.ensures.told c.args.setup.system c.args.setup.script c.args.bounds.events
-    (told_in c.in_ok-disc.disc).faults c.args.bounds.room (seen told_in c.in-Ended.world) leaves.0 last.run (told ∙ last.told)
+    (g.F.Follower.was_told c.close-disk-in-Err-Failed.result.1) c.close-disk-in-Err-Failed.ensures.told c.args.setup.system c.args.setup.script c.args.run.bounds.events
+    (told_in c.in_ok-disc.disc).faults c.args.run.bounds.room (seen told_in c.in-Ended.world) leaves.0 last.run (told ∙ last.told)
     (ap (λ (t : Told). committed t) told ∙ last.committed) last.room last.commits broken)
 
 pub returns : goal.returns
@@ -55,10 +55,10 @@ returns g c =
     let faults = (told_in c.in_ok-disc.disc).faults in
     let broken =
     has-failed g.S.Synced.held g.S.Synced.images g.S.Synced.settled g.S.Synced.faulted g.N.LogNaming.files g.N.LogNaming.before g.N.LogNaming.least
-    disc shut.log shut.keeps was_told shut.told c.args.setup.system c.args.setup.script c.args.bounds.events faults c.args.bounds.room world leaves.0 last.run last.told
+    disc shut.log shut.keeps was_told shut.told c.args.setup.system c.args.setup.script c.args.run.bounds.events faults c.args.run.bounds.room world leaves.0 last.run last.told
     last.committed last.room last.commits (omega (arith, ap (λ (t : Told). t.faults) c.in_ok-disc.ensures, c.requires.faults)) leaves.1.0 in
     subst (λ (disk : g.row.S.Denot). StoppedStored g.N.LogNaming.files g.N.LogNaming.before sys (g.S.Synced.images disk) was_told
     g.N.LogNaming.least (g.S.Synced.faulted disk)) (sym shut.disk)
     (stopped-stored g.S.Synced.held g.S.Synced.images g.S.Synced.settled g.S.Synced.faulted g.N.LogNaming.files g.N.LogNaming.before g.N.LogNaming.least
-    disc shut.log shut.keeps was_told shut.told c.args.setup.system c.args.setup.script c.args.bounds.events faults c.args.bounds.room world leaves.0 last.run last.told
+    disc shut.log shut.keeps was_told shut.told c.args.setup.system c.args.setup.script c.args.run.bounds.events faults c.args.run.bounds.room world leaves.0 last.run last.told
     last.committed last.room last.commits broken)

@@ -36,7 +36,7 @@ returns-clause-runs g c =
     store-runs c.runs_keep_their_promises.ensures c.runs_are_read_back.ensures.read c.failure_laws.ensures
     c.record_laws.ensures.valid c.record_laws.ensures.same c.record_laws.ensures.behaves
     c.args.bytes.now whole of reads.valid reads.behaves (reads.same of.deck of.says) reads.lines reads.few
-    c.args.bounds.events c.args.bounds.room g.D.Disk.may_leave g.D.Disk.faults g.F.Follower.was_told c.args.first.now (g.D.Disk.bytes c.args.disk)
+    c.args.run.bounds.events c.args.run.bounds.room g.D.Disk.may_leave g.D.Disk.faults g.F.Follower.was_told c.args.first.now (g.D.Disk.bytes c.args.disk)
     (g.D.Disk.faults c.args.disk) files stored
     c.in-Ok-first_files.ensures.ok alike runs)
 
