@@ -23,7 +23,7 @@ use Rattle.pw_code.specs.declared.place.Kind.TheVariants as kind
 use Rattle.pw_code.specs.declared.place.StoragePlace.{StoragePlace}
 use Rattle.pw_tree_meaning.specs.Values.{Value, number_of, number_of_item}
 use Rattle.pw_code_meaning.specs.Moves.{operated, operands_with, receiver_decimals, result_of, stored_by, stored_in}
-use Rattle.pw_code_meaning.specs.Reading.{Registers, Spot, Stored, chars_at, read, spot_of, value_in}
+use Rattle.pw_code_meaning.specs.Reading.{Registers, Spot, Stored, chars_at, read, spot_at, spot_of, value_in}
 use Rattle.pw_machine.specs.Statements.{computed_all}
 
 -- at its own places a number's units are as they stand
@@ -121,6 +121,14 @@ counted_sum registers storage new a place spot digits places more adds item read
 pub unsigned_picture : (k : Kind) (size digits places : ℕ) (signed : Bool) → k ≡ kind.Number digits places signed → signed ≡ false
     → picture_of k size ≡ Some (NumberPicture digits places false)
 unsigned_picture k size digits places signed is none = ap (λ w. picture_of w size) is ∙ ap (λ s. Some (NumberPicture digits places s)) none
+
+-- the spot of a place has the picture and the size of the place
+pub spot_as_written : (place : StoragePlace) (found : Option ℕ) (spot : Spot) → Some spot ≡ option_map (spot_at place) found
+    → (spot.picture ≡ picture_of place.kind place.size) × (spot.size ≡ place.size)
+spot_as_written place None spot is = absurd (cc)
+spot_as_written place (Some at) spot is =
+    let same : spot ≡ spot_at place at = cc in
+    (ap (λ (s : Spot). s.picture) same, ap (λ (s : Spot). s.size) same)
 
 -- it has as many characters as digits
 pub unsigned_size : (k : Kind) (size digits places : ℕ) (signed : Bool) → k ≡ kind.Number digits places signed → signed ≡ false

@@ -32,11 +32,15 @@ fn holds_by(operator: ComparisonOperator, found: Ordering) -> bool
     }
 }
 
-/// Whether all characters are digits.
+/// Whether all characters are digits. All are looked at, so that a turn of the loop has several of them.
 pub fn are_digits(chars: &[u8]) -> bool
     ensures { result ≡ list_all is_ascii_digit chars.now }
 {
-    chars.iter().all(|char| char.is_ascii_digit())
+    let mut all = true;
+    for char in chars {
+        all = all & char.is_ascii_digit();
+    }
+    all
 }
 
 /// Whether the characters are digits behind a sign.

@@ -13,6 +13,7 @@ ghost use Rattle.pw_machine.specs.Statements.{computed_all};
 ghost use Rattle.pw_machine.specs.Views.{registers_by, spot_by, IsSpot};
 
 use crate::conditions::are_digits;
+use crate::places::are_one_place;
 use crate::reading::spot_of;
 use crate::registers::MachineRegisters;
 use crate::spot::MachineSpot;
@@ -73,15 +74,8 @@ fn few_units(operand: &InstructionOperand, places: u8) -> Option<u8>
 /// Adds a few units to the receiver where it is their second operand and this changes its last digit alone. It is false, and all
 /// stays as it is, where it cannot.
 #[inline(always)]
-pub fn counted(
-    registers: MachineRegisters,
-    storage: &mut [u8],
-    arithmetic: &Arithmetic,
-    receiver: MachineSpot,
-) -> bool
-    requires arithmetic { IsArithmetic (length storage.old) arithmetic.now }
-    requires receiver { IsSpot (length storage.old) receiver }
-    requires there { Some (spot_by receiver) ≡ spot_of (registers_by registers) storage.old arithmetic.now.receiver }
+pub fn counted(registers: MachineRegisters, storage: &mut [u8], arithmetic: &Arithmetic) -> bool
+    requires { IsArithmetic (length storage.old) arithmetic.now }
     ensures sum { result ≡ true → Some (Some storage.new) ≡ computed_all (registers_by registers) storage.old arithmetic.now }
     ensures same { OnFalse result (storage.new ≡ storage.old) }
 {
@@ -91,14 +85,17 @@ pub fn counted(
     ) else {
         return false;
     };
-    let Kind::Number { places, signed, .. } = receiver.kind else {
+    let Kind::Number { places, signed, .. } = place.kind else {
         return false;
     };
     let Some(units) = few_units(&arithmetic.first, places) else {
         return false;
     };
+    if signed || !are_one_place(place, &arithmetic.receiver) {
+        return false;
+    }
     match spot_of(registers, storage, place) {
-        Some(second) if !signed && second.is(receiver) => count_in(storage, receiver, units),
-        _ => false,
+        Some(spot) => count_in(storage, spot, units),
+        None => false,
     }
 }

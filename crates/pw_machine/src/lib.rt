@@ -19,6 +19,7 @@ pub mod laws;
 mod linkage;
 mod moves;
 mod numbers;
+mod places;
 mod reading;
 mod registers;
 mod replies;

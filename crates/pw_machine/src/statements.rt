@@ -138,6 +138,24 @@ pub fn move_all(
     }
 }
 
+/// Arithmetic by the numbers of its operands: these and the receiver are taken first, None exactly where a subscript is outside.
+/// It is false on a size error. Nothing is stored then.
+#[inline(never)]
+fn compute_numbers(
+    registers: MachineRegisters,
+    storage: &mut [u8],
+    arithmetic: &Arithmetic,
+) -> Option<bool>
+    requires { IsArithmetic (length storage.old) arithmetic.now }
+    ensures stored { option_map (λ done. (if done then Some storage.new else None)) result ≡ computed_all (registers_by registers) storage.old arithmetic.now }
+    ensures same { result ≢ Some true → storage.new ≡ storage.old }
+{
+    let first = number_now(registers, storage, &arithmetic.first)?;
+    let second = number_now(registers, storage, &arithmetic.second)?;
+    let receiver = spot_of(registers, storage, &arithmetic.receiver)?;
+    Some(computed(storage, arithmetic.operation, first, second, receiver))
+}
+
 /// Arithmetic: both operands and the receiver are taken first, None exactly where a subscript is outside. It is
 /// false on a size error. Nothing is stored then.
 #[inline(always)]
@@ -150,11 +168,8 @@ pub fn compute(
     ensures stored { option_map (λ done. (if done then Some storage.new else None)) result ≡ computed_all (registers_by registers) storage.old arithmetic.now }
     ensures same { result ≢ Some true → storage.new ≡ storage.old }
 {
-    let receiver = spot_of(registers, storage, &arithmetic.receiver)?;
-    if counted(registers, storage, arithmetic, receiver) {
+    if counted(registers, storage, arithmetic) {
         return Some(true);
     }
-    let first = number_now(registers, storage, &arithmetic.first)?;
-    let second = number_now(registers, storage, &arithmetic.second)?;
-    Some(computed(storage, arithmetic.operation, first, second, receiver))
+    compute_numbers(registers, storage, arithmetic)
 }
