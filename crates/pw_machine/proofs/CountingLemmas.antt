@@ -1,12 +1,11 @@
 -- A few units that are added to an unsigned item where it stands.
-use Rattle.std.proofs.Common.{◌≡◌, ℕ, ◌+◌, ◌-◌, ◌*◌, ◌/◌, ◌%◌, ◌^◌, ◌<◌, ◌≤◌, max, ℤ, pos, ◌+ℤ◌, ◌*ℤ◌, Bool, true, false, not, ◌&&◌, ◌||◌, nat_lt, cond, List, [], ◌∷◌, Option, Some, None, Result, Ok, Err, length, take, drop, unsigned_abs, int_lt, refl, sym, ap, ◌∙◌, subst, arith}
+use Rattle.std.proofs.Common.{◌≡◌, ℕ, ◌+◌, ◌-◌, ◌%◌, ◌^◌, ◌<◌, ◌≤◌, max, ℤ, pos, ◌+ℤ◌, ◌*ℤ◌, Bool, true, false, nat_lt, List, Option, Some, None, Ok, Err, refl, sym, ap, ◌∙◌, subst, arith}
 use Rattle.std.specs.Prelude.{option_map, IfSome, if◌then◌else◌}
 use Rattle.std.proofs.Math.IntN.{*ℤ-one}
 use Rattle.std.proofs.Math.Nat.{mul-div_cancel, mod-eq_of_lt, pow-le-pow_right}
 use Rattle.std.proofs.lemmas.Bool.Decides.{nat_tests}
-use Rattle.pw_number.specs.Number.{Number, number, is_short}
-use Rattle.pw_number.specs.Arithmetic.{sized, sum, raised, common}
-use Rattle.pw_number.specs.declared.size_error.SizeError.{SizeError}
+use Rattle.pw_number.specs.Number.{Number, number}
+use Rattle.pw_number.specs.Arithmetic.{sized, sum, raised}
 use Rattle.pw_number.proofs.Scales.{ten-pos}
 use Rattle.pw_picture.specs.declared.picture.Picture.TheVariants.{Number as NumberPicture}
 use Rattle.pw_picture.specs.Stored.{digits_of, value_of, size_at, is_kept, is_negative, moved}
@@ -16,7 +15,6 @@ use Rattle.pw_code.specs.Places.{picture_of}
 use Rattle.pw_code.specs.declared.instr.Arithmetic.{Arithmetic}
 use Rattle.pw_code.specs.declared.instr.ArithmeticOperation.{ArithmeticOperation}
 use Rattle.pw_code.specs.declared.instr.ArithmeticOperation.TheVariants.{Add}
-use Rattle.pw_code.specs.declared.operand.InstructionOperand.{InstructionOperand}
 use Rattle.pw_code.specs.declared.operand.InstructionOperand.TheVariants.{Item}
 use Rattle.pw_code.specs.declared.place.Kind.{Kind}
 use Rattle.pw_code.specs.declared.place.Kind.TheVariants as kind

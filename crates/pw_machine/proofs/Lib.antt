@@ -3,6 +3,7 @@ pub mod BesideLemmas
 pub mod CodeLemmas
 pub mod CountingLemmas
 pub mod DigitLemmas
+pub mod DigitOrders
 pub mod EntryLemmas
 pub mod KeyedLemmas
 pub mod LinkageLemmas

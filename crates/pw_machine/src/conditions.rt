@@ -8,6 +8,7 @@ ghost use Rattle.pw_tree_meaning.specs.Values.{is_number_operand};
 ghost use Rattle.pw_machine.specs.Views.{registers_by, taken_by, IsTaken};
 
 use crate::compare::compared;
+use crate::digits::order_alike;
 use crate::numbers::chars_at;
 use crate::reading::taken;
 use crate::registers::MachineRegisters;
@@ -94,7 +95,8 @@ fn is_number(operand: &InstructionOperand) -> bool
     }
 }
 
-/// How two operands compare at this moment, None exactly where a subscript is outside: two numbers at once.
+/// How two operands compare at this moment, None exactly where a subscript is outside: two numbers of one kind as they stand,
+/// and any two at once.
 #[inline(always)]
 fn order_of(
     registers: MachineRegisters,
@@ -106,6 +108,9 @@ fn order_of(
     requires right { IsOperand (length storage.now) right.now }
     ensures { result ≡ of_two compared (read (registers_by registers) storage.now left.now) (read (registers_by registers) storage.now right.now) }
 {
+    if let Some(found) = order_alike(registers, storage, left, right) {
+        return Some(found);
+    }
     if is_number(left) && is_number(right) {
         let one = number_now(registers, storage, left)?;
         let two = number_now(registers, storage, right)?;

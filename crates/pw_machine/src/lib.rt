@@ -13,6 +13,7 @@ mod chars;
 mod compare;
 mod conditions;
 mod counting;
+mod digits;
 mod entries;
 mod keyed;
 pub mod laws;

@@ -6,7 +6,7 @@ use pw_code::place::{Kind, PlaceSubscript, PlaceTable, StoragePlace};
 
 /// Whether two kinds are the same.
 #[inline(always)]
-fn are_alike(one: Kind, other: Kind) -> bool
+pub fn are_alike(one: Kind, other: Kind) -> bool
     ensures { result ≡ true → one ≡ other }
 {
     match (one, other) {
