@@ -102,6 +102,7 @@ pub fn begin_move(
 }
 
 /// Arithmetic: goes on with the next instruction on a size error, and else behind so many.
+#[inline(always)]
 fn calculate(top: &mut Top, context: &mut Context, arithmetic: &Arithmetic, over: u32)
     requires arithmetic { IsArithmetic (length top.old.storage.items) arithmetic.now }
     requires place { top.old.at + 1 + over < 2 ^ 32 }
