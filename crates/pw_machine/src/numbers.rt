@@ -8,6 +8,7 @@ use pw_number::scaled::Scaled;
 use pw_picture::picture::Picture;
 
 /// The whole part of a number's value, and 0 for one below zero.
+#[inline(always)]
 pub fn whole_part(number: Scaled) -> u128
     ensures { result ≡ whole_part number }
 {
@@ -33,6 +34,7 @@ pub fn chars_at(storage: &[u8], at: usize, size: usize) -> &[u8]
 }
 
 /// The number that at most 18 characters are, at these places.
+#[inline(always)]
 pub fn digits_in(chars: &[u8], places: u8) -> Scaled
     requires some { 1 ≤ length chars.now }
     requires few { length chars.now ≤ 18 }

@@ -29,6 +29,7 @@ fn subscript_of(registers: MachineRegisters, storage: &[u8], subscript: &PlaceSu
 }
 
 /// Where the k-th occurrence of an item begins, None exactly outside 1 to OCCURS.
+#[inline(always)]
 fn occurrence_at(at: usize, table: &PlaceTable, k: u128) -> Option<usize>
     requires { at + (table.now.occurs - 1) * table.now.step < 2 ^ 63 }
     ensures { result ≡ occurrence_at at table.now k }
