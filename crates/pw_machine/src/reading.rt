@@ -14,6 +14,7 @@ use pw_code::operand::InstructionOperand;
 use pw_code::place::{PlaceSubscript, PlaceTable, Register, StoragePlace};
 
 /// The value of a subscript.
+#[inline(always)]
 fn subscript_of(registers: MachineRegisters, storage: &[u8], subscript: &PlaceSubscript) -> u128
     requires { IsSubscriptInStorage (length storage.now) subscript.now }
     ensures { result ≡ subscript_of (registers_by registers) storage.now subscript.now }
