@@ -1,12 +1,13 @@
 -- The pieces from the left: the first one, and those of what stands behind it.
-use Rattle.std.proofs.Common.{◌≡◌, ℕ, suc, ◌+◌, ◌<◌, Bool, true, false, not, List, [], ◌∷◌, ◌++◌, length, take, drop, take_while, cond, refl, sym, ap, subst, ◌∙◌, arith}
+use Rattle.std.proofs.Common.{◌≡◌, ℕ, suc, ◌+◌, ◌<◌, Bool, true, false, not, List, [], ◌∷◌, ◌++◌, length, take, drop, take_while, cond, refl, sym, ap, subst, ◌∙◌, add-zero, arith}
+use Rattle.std.proofs.lemmas.List.{drop-drop}
 use Rattle.std.proofs.lemmas.List.Sums.{take_while-cons}
 use Rattle.std.specs.Prelude.{if◌then◌else◌}
 use Rattle.pw_text.specs.declared.token.Token.{Token}
 use Rattle.pw_forms.specs.declared.mark.TokenMark.{TokenMark}
 use Rattle.pw_forms.specs.declared.mark.TokenMark.TheVariants.{Verb, Else, EndIf, Period, Other}
 use Rattle.pw_forms.specs.Words.{mark_of, begins_piece}
-use Rattle.pw_forms.specs.Pieces.{is_period, first_mark, first_piece, before, cut, pieces_joined, run_size, piece_size, placed, placed_all}
+use Rattle.pw_forms.specs.Pieces.{is_period, first_mark, first_piece, before, cut, pieces_joined, run_size, piece_size, piece_by, placed, placed_all}
 
 -- what begins no piece is no period
 no_period : (mark : TokenMark) → begins_piece mark ≡ false → is_period mark ≡ false
@@ -60,12 +61,12 @@ module _ (server : Bool) (text : List ℕ) where
   abbrev With_run : Token → List Token → ℕ → Type 0
   With_run token tokens size = before server text token (cut server text tokens) ≡ (token ∷ take size tokens) ∷ cut server text (drop size tokens)
 
-  run_size-begins : (next : Token) (tokens : List Token) → begins_piece (mark_of server text next) ≡ true → run_size server text (next ∷ tokens) ≡ 0
+  pub run_size-begins : (next : Token) (tokens : List Token) → begins_piece (mark_of server text next) ≡ true → run_size server text (next ∷ tokens) ≡ 0
   run_size-begins next tokens starts =
       ap length (take_while-cons (λ token. not (begins_piece (mark_of server text token))) next tokens)
       ∙ ap (λ b. length (cond (not b) (next ∷ take_while (λ token. not (begins_piece (mark_of server text token))) tokens) [])) starts
 
-  run_size-goes_on : (next : Token) (tokens : List Token) → begins_piece (mark_of server text next) ≡ false → run_size server text (next ∷ tokens) ≡ suc (run_size server text tokens)
+  pub run_size-goes_on : (next : Token) (tokens : List Token) → begins_piece (mark_of server text next) ≡ false → run_size server text (next ∷ tokens) ≡ suc (run_size server text tokens)
   run_size-goes_on next tokens starts =
       ap length (take_while-cons (λ token. not (begins_piece (mark_of server text token))) next tokens)
       ∙ ap (λ b. length (cond (not b) (next ∷ take_while (λ token. not (begins_piece (mark_of server text token))) tokens) [])) starts
@@ -136,3 +137,53 @@ module _ (server : Bool) (text : List ℕ) where
   unfolding cut placed_all
   no_pieces [] none = refl
   no_pieces (token ∷ tokens) none = absurd (omega arith)
+
+  -- the run ends in front of this token
+  pub run-ends : (size : ℕ) (rest tokens behind : List Token) (token : Token) → rest ≡ token ∷ behind → begins_piece (mark_of server text token) ≡ true
+      → size + run_size server text rest ≡ run_size server text tokens → size ≡ run_size server text tokens
+  run-ends size rest tokens behind token is starts so_far =
+      let none : run_size server text rest ≡ 0 = ap (run_size server text) is ∙ run_size-begins token behind starts in
+      omega arith
+
+  -- the run goes on
+  pub run-goes_on : (size : ℕ) (rest tokens behind : List Token) (token : Token) → rest ≡ token ∷ behind → begins_piece (mark_of server text token) ≡ false
+      → size + run_size server text rest ≡ run_size server text tokens → (size + 1) + run_size server text behind ≡ run_size server text tokens
+  run-goes_on size rest tokens behind token is goes so_far =
+      let one : run_size server text rest ≡ suc (run_size server text behind) = ap (run_size server text) is ∙ run_size-goes_on token behind goes in
+      omega arith
+
+  -- what the first piece is, by its first token and those behind it, and what those behind it are
+  pub placed_all-next : (tokens behind front next : List Token) (first : Token) (mark : TokenMark) (size : ℕ) (followed : Bool) → tokens ≡ first ∷ behind
+      → mark ≡ first_mark server text tokens → size ≡ (if is_period mark then 0 else run_size server text behind)
+      → front ≡ take size behind → next ≡ drop size behind → followed ≡ is_period (first_mark server text next)
+      → placed_all server text (cut server text tokens)
+      ≡ (record { line = first.line; piece = piece_by mark server text followed first front }) ∷ placed_all server text (cut server text next)
+  unfolding placed
+  placed_all-next tokens behind front next first mark size followed is mark_is size_is front_is next_is followed_is =
+      let own : mark_of server text first ≡ mark = sym (mark_is ∙ ap (first_mark server text) is) in
+      let all : suc size ≡ piece_size server text (first ∷ behind) = sized (is_period mark) (ap is_period own) size_is in
+      let some : 0 < length (first ∷ behind) = omega arith in
+      ap (λ ts. placed_all server text (cut server text ts)) is
+      ∙ placed_all-piece (first ∷ behind) (first ∷ front) next (suc size) followed some all (ap (λ ts. first ∷ ts) front_is) next_is followed_is
+      ∙ ap (λ m. (record { line = first.line; piece = piece_by m server text followed first front }) ∷ placed_all server text (cut server text next)) own
+    where
+      sized : (period : Bool) → is_period (mark_of server text first) ≡ period → size ≡ (if period then 0 else run_size server text behind)
+          → suc size ≡ piece_size server text (first ∷ behind)
+      sized true is n = ap suc n ∙ sym (ap (λ b. if b then 1 else 1 + run_size server text behind) is)
+      sized false is n =
+          let more : suc (run_size server text behind) ≡ 1 + run_size server text behind = omega arith in
+          ap suc n ∙ more ∙ sym (ap (λ b. if b then 1 else 1 + run_size server text behind) is)
+
+  -- the run ends with the tokens
+  pub run-all : (size : ℕ) (rest tokens : List Token) → length rest ≡ 0 → size + run_size server text rest ≡ run_size server text tokens → size ≡ run_size server text tokens
+  run-all size [] tokens none so_far = sym (add-zero size) ∙ so_far
+  run-all size (token ∷ rest) tokens none so_far = absurd (omega arith)
+
+  -- no token is left that begins anything
+  pub none-first : (rest tokens : List Token) → length rest ≡ 0 → rest ≡ tokens → Other ≡ first_mark server text tokens
+  none-first [] tokens none is = ap (first_mark server text) is
+  none-first (token ∷ rest) tokens none is = absurd (omega arith)
+
+-- behind one token more
+pub drop-next : (size : ℕ) (rest tokens behind : List Token) (token : Token) → rest ≡ token ∷ behind → rest ≡ drop size tokens → behind ≡ drop (size + 1) tokens
+drop-next size rest tokens behind token is at = ap (drop 1) (sym is ∙ at) ∙ drop-drop 1 size tokens

@@ -60,6 +60,7 @@ impl ParagraphBuilder {
     }
 
     /// Puts the next piece behind those so far.
+    #[inline(always)]
     pub fn put(&mut self, alloc: Global, next: Placed) -> Result<(), Memory>
         ensures begun { OnOk result (is_some self.new.begun
             ≡ (is_some self.old.begun || is_paragraph_name next.piece)) }

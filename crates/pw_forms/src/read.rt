@@ -4,14 +4,20 @@ ghost use Rattle.pw_words.specs.Names.{has_name};
 ghost use Rattle.pw_forms.specs.Faults.{is_paragraph_name, early, code_unless, piece_fault_code, taken_after, fault_at};
 ghost use Rattle.pw_forms.specs.Built.{outcome};
 ghost use Rattle.pw_forms.specs.Blocks.{branches};
+ghost use Rattle.pw_forms.specs.Pieces.{verb_piece, piece_by};
 ghost use Rattle.pw_forms.specs.Procedures.{outcome_of, procedure_of};
 ghost use Rattle.pw_forms.specs.declared.piece.Placed.{Placed as PlacedPiece};
 
 use crate::branch::OpenParagraph;
 use crate::build::ParagraphBuilder;
+use crate::cursor::FormCursor;
+use crate::form::Form;
+use crate::forms::form;
+use crate::lack::Lack;
+use crate::mark::{StatementVerb, TokenMark};
 use crate::names::put_name;
 use crate::piece::{Piece, Placed};
-use crate::pieces::{begins_with_period, piece_size, placed};
+use crate::pieces::{first_mark, is_barred, is_period, piece_end, run_piece};
 use crate::reading::ProcedureReading;
 use crate::statement::Procedure;
 use pw_base::fault::{Fault, Refusal, better};
@@ -43,6 +49,7 @@ fn early(begun: bool, piece: &Piece) -> Option<FaultCode>
 }
 
 /// The code of a piece's fault, if it has one. The name of a paragraph is put into the set.
+#[inline(always)]
 fn code_of(
     alloc: Global,
     names: &mut Names,
@@ -88,7 +95,8 @@ impl ProcedureReading {
         }
     }
 
-    /// Reads the next piece.
+    /// Reads the next piece. A call that knows of which kind it is does what that kind asks for alone.
+    #[inline(always)]
     fn put(&mut self, alloc: Global, next: Placed) -> Result<(), Memory>
         ensures { OnOk result ((pieces : List PlacedPiece)
             → outcome self.new pieces ≡ outcome self.old (next ∷ pieces)) }
@@ -99,6 +107,86 @@ impl ProcedureReading {
         self.build.put(alloc, next)?;
         self.known = noted_code(noted_code(self.known, line, early), line, code?);
         Ok(())
+    }
+
+    /// Reads the piece that a verb and the tokens behind it are.
+    fn put_verb(
+        &mut self,
+        alloc: Global,
+        server: bool,
+        text: &[u8],
+        line: u32,
+        verb: StatementVerb,
+        tokens: &[Token],
+    ) -> Result<(), Memory>
+        ensures { OnOk result ((pieces : List PlacedPiece) → outcome self.new pieces
+            ≡ outcome self.old (record { line = line; piece = verb_piece server text.now line verb tokens.now } ∷ pieces)) }
+    {
+        if server && is_barred(verb) {
+            let piece = Piece::Fault(FaultCode::NotForServers);
+            self.put(alloc, Placed { line, piece })?;
+            return Ok(());
+        }
+        let mut rest = FormCursor::new(server, text, tokens);
+        match form(alloc, verb, line, &mut rest) {
+            Ok(Form::Whole(statement)) => {
+                let piece = Piece::Whole(statement);
+                self.put(alloc, Placed { line, piece })?;
+                Ok(())
+            }
+            Ok(Form::Opens(head)) => {
+                let piece = Piece::Opens(head);
+                self.put(alloc, Placed { line, piece })?;
+                Ok(())
+            }
+            Err(Lack::NoForm) => {
+                let piece = Piece::Fault(FaultCode::NoSuchForm);
+                self.put(alloc, Placed { line, piece })?;
+                Ok(())
+            }
+            Err(Lack::Memory) => Err(Memory),
+        }
+    }
+
+    /// Reads the piece of a token, which begins what the mark says, and of those behind it. `followed`:
+    /// a period follows it.
+    fn put_by(
+        &mut self,
+        alloc: Global,
+        server: bool,
+        text: &[u8],
+        mark: TokenMark,
+        followed: bool,
+        first: Token,
+        tokens: &[Token],
+    ) -> Result<(), Memory>
+        ensures { OnOk result ((pieces : List PlacedPiece) → outcome self.new pieces
+            ≡ outcome self.old (record { line = first.line; piece = piece_by mark server text.now followed first tokens.now } ∷ pieces)) }
+    {
+        let line = first.line;
+        match mark {
+            TokenMark::Verb(verb) => self.put_verb(alloc, server, text, line, verb, tokens),
+            TokenMark::Period => {
+                let piece = Piece::Period;
+                self.put(alloc, Placed { line, piece })
+            }
+            TokenMark::Else if tokens.is_empty() => {
+                let piece = Piece::Else;
+                self.put(alloc, Placed { line, piece })
+            }
+            TokenMark::EndIf if tokens.is_empty() => {
+                let piece = Piece::EndIf;
+                self.put(alloc, Placed { line, piece })
+            }
+            TokenMark::Else | TokenMark::EndIf => {
+                let piece = Piece::Fault(FaultCode::NoSuchForm);
+                self.put(alloc, Placed { line, piece })
+            }
+            TokenMark::Other => {
+                let piece = run_piece(alloc, server, text, followed, first, tokens)?;
+                self.put(alloc, Placed { line, piece })
+            }
+        }
     }
 
     /// The procedure, or the first fault, where no piece is left.
@@ -133,12 +221,13 @@ pub fn procedure(
 {
     let mut reading = ProcedureReading::new(alloc);
     let mut rest = tokens;
-    while !rest.is_empty() {
-        let (piece, behind) = rest.split_at(piece_size(server, text, rest));
-        let followed = begins_with_period(server, text, behind);
-        let next = placed(alloc, server, text, followed, piece)?;
-        reading.put(alloc, next)?;
-        rest = behind;
+    let mut mark = first_mark(server, text, rest);
+    while let Some((first, behind)) = rest.split_first() {
+        let (size, next_mark) = piece_end(server, text, mark, behind);
+        let (run, next) = behind.split_at(size);
+        reading.put_by(alloc, server, text, mark, is_period(next_mark), *first, run)?;
+        rest = next;
+        mark = next_mark;
     }
     reading.finish(alloc)
 }
