@@ -21,6 +21,7 @@ use pw_names::names::names;
 use pw_scobol::requester::Requester;
 use pw_server::server::Server;
 use std::alloc::Global;
+use std::mem::forget;
 
 /// What a deck says. Its programs are trees yet, and stand beside the tables of the system.
 #[derive(Drop)]
@@ -110,11 +111,13 @@ pub fn read_deck(alloc: Global, bytes: &[u8]) -> Result<ParsedDeck, Refusal>
     finish(alloc, bytes, parts)
 }
 
-/// Whether a deck has a fault: an `Err` is the first one, as `read_deck` gives it.
+/// Whether a deck has a fault: an `Err` is the first one, as `read_deck` gives it. What the deck says is
+/// not taken apart again, and its memory stays until the process ends: this is for a program that answers
+/// and is done.
 pub fn check_deck(alloc: Global, bytes: &[u8]) -> Result<(), Refusal>
     ensures ok { OnOk result ((deck : SeenDeck) × (deck_of bytes.now ≡ Ok deck)) }
     ensures fault { IfErr result (λ refusal. Refuses refusal (deck_of bytes.now)) }
 {
-    read_deck(alloc, bytes)?;
+    forget(read_deck(alloc, bytes)?);
     Ok(())
 }
