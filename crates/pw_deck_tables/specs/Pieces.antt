@@ -1,5 +1,6 @@
 -- Pieces of a deck.
-use Rattle.std.specs.Prelude.{ℕ, ◌+◌, ◌≤◌, List, [], ◌∷◌, length, drop, position, ◌==◌, Option, None, Some}
+use Rattle.std.specs.Prelude.{ℕ, ◌+◌, ◌≤◌, Bool, false, not, List, [], ◌∷◌, length, drop, position, ◌==◌, Option, None, Some}
+use Rattle.pw_base.specs.Characters.{line_feed}
 use Rattle.pw_base.specs.Limits.{longest_input}
 use Rattle.pw_sections.specs.Lines.{lines}
 
@@ -30,3 +31,9 @@ section_line section = first_line_of (lines section)
 -- what stands behind the section line of a section
 abbrev pub section_text : List ℕ → List ℕ
 section_text section = behind_place section (position (λ b. b == 10) section)
+
+-- whether the last line of a text lacks its LF
+unfoldable pub is_open : List ℕ → Bool
+is_open [] = false
+is_open (b ∷ []) = not (b == line_feed)
+is_open (b ∷ (c ∷ rest)) = is_open (c ∷ rest)

@@ -1,7 +1,8 @@
-ghost use Rattle.std.specs.Prelude.{◌≡◌, ◌+◌, ◌≤◌, length};
+ghost use Rattle.std.specs.Prelude.{◌≡◌, ◌==◌, ◌+◌, ◌≤◌, length, filter};
+ghost use Rattle.pw_base.specs.Characters.{line_feed};
 ghost use Rattle.pw_base.specs.Limits.{longest_input};
 ghost use Rattle.pw_sections.specs.Lines.{lines};
-ghost use Rattle.pw_deck_tables.specs.Pieces.{section_line, section_text};
+ghost use Rattle.pw_deck_tables.specs.Pieces.{section_line, section_text, is_open};
 
 use pw_sections::line::{line_end, next_line};
 use std::marker::Model;
@@ -46,17 +47,30 @@ pub fn section_text(section: &[u8]) -> &[u8]
     }
 }
 
+/// How many lines of a text end with LF.
+fn line_ends(text: &[u8]) -> usize
+    ensures value { result ≡ length (filter (λ byte. byte == line_feed) text.now) }
+    ensures bound { result ≤ length text.now }
+{
+    text.iter().filter(|byte| **byte == b'\n').count()
+}
+
+/// Whether the last line of a text lacks its LF.
+fn is_open(text: &[u8]) -> bool
+    ensures { result ≡ is_open text.now }
+{
+    match text.split_last() {
+        Some((byte, _)) => *byte != b'\n',
+        None => false,
+    }
+}
+
 /// How many lines a text has.
 pub fn line_count(text: &[u8]) -> u32
     requires { length text.now ≤ longest_input }
     ensures value { result ≡ length (lines text.now) }
     ensures bound { result ≤ length text.now }
 {
-    let mut count = 0;
-    let mut rest = text;
-    while let Some((_, behind)) = next_line(rest) {
-        count += 1;
-        rest = behind;
-    }
-    count
+    let ends = line_ends(text) as u32;
+    if is_open(text) { ends + 1 } else { ends }
 }

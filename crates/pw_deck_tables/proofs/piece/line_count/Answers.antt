@@ -1,12 +1,13 @@
-use Rattle.std.proofs.Common.{length, ap, arith}
-use Rattle.pw_deck_tables.proofs.Lines.{none_counted}
+use Rattle.std.proofs.Common.{sym, arith}
+use Rattle.pw_deck_tables.proofs.Lines.{counted-open, counted-shut, few_lines}
 use Rattle.pw_deck_tables.proofs.piece.line_count.Goals as goal
 
-pub loop-behind-preserved : goal.loop-behind-preserved
-loop-behind-preserved c = record {
-  counted = omega (arith, c.loop-behind.invariant.counted, ap length c.in-Some.ensures.cases);
-  bound = omega (arith, c.loop-behind.invariant.bound, c.in-Some.ensures.shorter);
-}
+pub returns-then-is_open-clause-value : goal.returns-then-is_open-clause-value
+returns-then-is_open-clause-value c = sym (counted-open c.args.text.now c.line_ends-ends.result c.line_ends-ends.ensures.value c.if-is_open.ensures)
 
-pub returns-clause-value : goal.returns-clause-value
-returns-clause-value c = omega (arith, c.loop-behind.invariant.counted, none_counted c.loop-behind.rest.now c.in_default.ensures.cases)
+pub returns-then-is_open-clause-bound : goal.returns-then-is_open-clause-bound
+returns-then-is_open-clause-bound c =
+    omega (arith, counted-open c.args.text.now c.line_ends-ends.result c.line_ends-ends.ensures.value c.if-is_open.ensures, few_lines c.args.text.now)
+
+pub returns-else-is_open-clause-value : goal.returns-else-is_open-clause-value
+returns-else-is_open-clause-value c = sym (counted-shut c.args.text.now c.line_ends-ends.result c.line_ends-ends.ensures.value c.if-is_open.ensures)
