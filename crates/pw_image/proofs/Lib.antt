@@ -1,4 +1,5 @@
 pub mod Appending
+pub mod Between
 pub mod Forms
 pub mod ImageForms
 pub mod Loop

@@ -1,14 +1,12 @@
 -- The records that differ, put into the old image, give the new one.
-use Rattle.std.proofs.Common.{◌≡◌, ℕ, zero, suc, ◌+◌, ◌-◌, ◌*◌, min, ◌<◌, ◌≤◌, Bool, true, false, ◌&&◌, ◌==◌, cond, not, Decides, List, [], ◌∷◌, ◌++◌, length, get_or, take, drop, map, nat_lt, append_assoc, refl, sym, ap, ◌∙◌, inl, inr, ◌⊎◌, ⊎_elim, arith}
-use Rattle.std.proofs.Math.Seq.{drop-cons, take-add, take-append_seam, drop-append-add, drop-length}
+use Rattle.std.proofs.Common.{◌≡◌, ℕ, zero, suc, ◌+◌, ◌-◌, ◌*◌, min, ◌<◌, ◌≤◌, Bool, true, false, ◌&&◌, ◌==◌, cond, not, Decides, List, [], ◌∷◌, ◌++◌, length, get_or, take, drop, map, nat_lt, append_assoc, refl, sym, ap, ◌∙◌, ⊎_elim, arith}
+use Rattle.std.proofs.Math.Seq.{drop-cons, take-add, take-append_seam, drop-append-add}
 use Rattle.std.proofs.lemmas.Bool.{true≢false, lt-ltb, eq-eqb, cases_lt, ltb-true, eqb-true, not-false}
 use Rattle.std.proofs.lemmas.List.{take_all, drop_all, drop-drop, take-append-drop, append-nil, length-append, length-take, length-take-le, length-drop}
 use Rattle.std.proofs.lemmas.List.FromFn.{filter_of_map_range_with_len_more}
 use Rattle.std.proofs.lemmas.Slice.Eq.{bytes_eq-Decides}
-use Rattle.std.specs.Int.{div_ceil}
 use Rattle.std.specs.List.{filter, list_all, range_with_len}
-use Rattle.std.specs.Str.{bytes_eq}
-use Rattle.pw_image.specs.Records.{changed_records, differs, is_rising, lies_in, numbered_record, patched, record_at, record_count, records, rises_above, with_record}
+use Rattle.pw_image.specs.Records.{changed_records, differs, is_rising, lies_in, numbered_record, patched, record_at, record_count, rises_above, with_record}
 use Rattle.pw_image.specs.declared.changed.Changed.{Changed}
 
 Decides-both : (a b : Bool) → Decides (a && b) ((a ≡ true) × (b ≡ true))

@@ -16,6 +16,10 @@ record_count bytes = div_ceil bytes 64
 abbrev pub numbered_record : List ℕ → ℕ → Changed
 numbered_record image number = record { number = number; bytes = record_at image number }
 
+-- the bytes of so many records of an image from a number on
+abbrev pub records_between : List ℕ → ℕ → ℕ → List ℕ
+records_between image from count = take (64 * count) (drop (64 * from) image)
+
 -- the records of an image, in order
 abbrev pub records : List ℕ → List Changed
 records image = map (numbered_record image) (range_with_len 0 (record_count (length image)))
@@ -27,6 +31,10 @@ differs old changed = not (bytes_eq (record_at old changed.number) changed.bytes
 -- the records of the new image that differ from those of the old one
 abbrev pub changed_records : List ℕ → List ℕ → List Changed
 changed_records old new = filter (differs old) (records new)
+
+-- those of so many numbers from one on
+abbrev pub changed_between : List ℕ → List ℕ → ℕ → ℕ → List Changed
+changed_between old new from count = filter (differs old) (map (numbered_record new) (range_with_len from count))
 
 -- the record lies in the image, with its length
 abbrev pub lies_in : List ℕ → Changed → Bool

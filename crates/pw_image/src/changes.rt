@@ -1,10 +1,10 @@
-ghost use Rattle.std.specs.Prelude.{◌≡◌, ◌+◌, ◌<◌, ◌*◌, ◌++◌, ◌∷◌, [], length, true, IfOk, IsTrue, OnOk, OnErr, ◌↔◌};
+ghost use Rattle.std.specs.Prelude.{◌≡◌, ◌+◌, ◌<◌, ◌≤◌, ◌*◌, ◌^◌, ◌++◌, ◌∷◌, [], length, true, IfOk, IsTrue, OnOk, OnErr, ◌↔◌};
 ghost use Rattle.std.specs.Prelude.{if◌then◌else◌};
 ghost use Rattle.std.specs.List.{list_all};
-ghost use Rattle.pw_image.specs.Records.{numbered_record, differs, record_at, changed_records, lies_in, with_record, patched};
+ghost use Rattle.pw_image.specs.Records.{numbered_record, differs, record_at, record_count, records_between, changed_between, changed_records, lies_in, with_record, patched};
 
 use crate::changed::{Changed, Changes};
-use crate::records::{RECORD, record_at, record_count};
+use crate::records::{RECORD, record_at, record_count, records_between};
 use pw_base::bytes::Bytes;
 use pw_base::memory::Memory;
 use std::alloc::Global;
@@ -19,10 +19,37 @@ pub fn changes(alloc: Global, old: &[u8], new: &[u8]) -> Result<Changes, Memory>
         return Err(Memory);
     };
     let mut changed = Vec::new(alloc);
-    for number in 0..count {
-        add_changed(alloc, &mut changed, old, new, number)?;
+    if count > 0 {
+        add_between(alloc, &mut changed, old, new, 0, count)?;
     }
     Ok(Changes::from_records(changed))
+}
+
+/// Puts those of so many records of the new image, from a number on, that differ behind the others. Records that are
+/// equal in both images are passed over together: where some differ, each half is looked at by itself.
+fn add_between(
+    alloc: Global,
+    changed: &mut Vec<Changed>,
+    old: &[u8],
+    new: &[u8],
+    from: u32,
+    count: u32,
+) -> Result<(), Memory>
+    requires length { length old.now ≡ length new.now }
+    requires some { 0 < count }
+    requires within { from + count ≤ record_count (length new.now) }
+    requires fits { from + count < 2 ^ 32 }
+    ensures { OnOk result (changed.new.items ≡ changed.old.items ++ changed_between old.now new.now from count) }
+{
+    if records_between(old, from, count) == records_between(new, from, count) {
+        return Ok(());
+    }
+    if count == 1 {
+        return add_changed(alloc, changed, old, new, from);
+    }
+    let half = count / 2;
+    add_between(alloc, changed, old, new, from, half)?;
+    add_between(alloc, changed, old, new, from + half, count - half)
 }
 
 /// Puts a record of the new image behind the others, where it differs from that of the old one. An `Err` leaves the

@@ -1,5 +1,5 @@
 ghost use Rattle.std.specs.Prelude.{◌≡◌, ◌+◌, ◌<◌, ◌≤◌, ◌*◌, ◌^◌, ◌&&◌, ◌==◌, nat_lt, length, take, drop, bytes_eq};
-ghost use Rattle.pw_image.specs.Records.{record_at, record_count};
+ghost use Rattle.pw_image.specs.Records.{record_at, record_count, records_between};
 
 /// The bytes of a record of an image; the last record may be shorter.
 pub const RECORD: usize = 64;
@@ -22,4 +22,14 @@ pub fn record_at(image: &[u8], number: usize) -> &[u8]
     } else {
         &rest[..RECORD]
     }
+}
+
+/// The bytes of so many records of an image from a number on.
+pub fn records_between(image: &[u8], from: u32, count: u32) -> &[u8]
+    requires { 64 * from ≤ length image.now }
+    ensures { result.now ≡ records_between image.now from count }
+{
+    let (_, rest) = image.split_at(RECORD * from as usize);
+    let len = RECORD * count as usize;
+    if rest.len() < len { rest } else { &rest[..len] }
 }

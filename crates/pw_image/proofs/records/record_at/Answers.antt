@@ -1,5 +1,5 @@
 -- The last record is what is left.
-use Rattle.std.proofs.Common.{◌≡◌, ◌*◌, ◌<◌, drop, take, length, sym, ap, ◌∙◌, arith}
+use Rattle.std.proofs.Common.{◌<◌, take, length, sym, ap, ◌∙◌, arith}
 use Rattle.std.proofs.lemmas.List.{take_all}
 use Rattle.pw_image.proofs.records.record_at.Goals as goal
 
