@@ -1,6 +1,8 @@
 -- Words that are the digits of a number.
-use Rattle.std.proofs.Common.{◌≡◌, ◌≢◌, ℕ, zero, suc, ◌<◌, ◌≤◌, ◌^◌, true, false, List, [], ◌∷◌, length, get_or, refl, sym, ap, ◌∙◌, arith, subst, inl, inr, Result, Ok, Err}
-use Rattle.std.specs.Prelude.{◌==◌}
+use Rattle.std.proofs.Common.{◌≡◌, ◌≢◌, ℕ, zero, suc, ◌+◌, ◌<◌, ◌≤◌, ◌^◌, true, false, List, [], ◌∷◌, length, get_or, refl, sym, ap, ◌∙◌, arith, subst, inl, inr, Result, Ok, Err}
+use Rattle.std.specs.Prelude.{◌==◌, ◌-◌}
+use Rattle.std.specs.Char.{is_ascii_digit}
+use Rattle.std.proofs.lemmas.Bool.Decides.{nat_tests}
 use Rattle.std.specs.Fmt.{decimal}
 use Rattle.std.specs.Str.{IsUtf8}
 use Rattle.std.specs.Str.Parse.{ParsesUnsigned, AllDigits, digits_value}
@@ -73,3 +75,17 @@ parsed_none E word text e same plain parses n fits is =
     let numeral = decimal_is_IsNumeral n (omega arith) in
     let Q : List ℕ → Type 0 = λ w. AllDigits 10 w × (0 < length w) × (digits_value 10 w < 2 ^ 32) in
     read (subst Q (sym is) (numeral.0.1, numeral.0.0, omega (arith, numeral.1)))
+
+-- a byte that is no digit is none of a number
+pub no_digit_none : (byte : ℕ) → is_ascii_digit byte ≡ false → (n : ℕ) → n < 2 ^ 32 → byte ∷ [] ≡ decimal n → ⊥
+no_digit_none byte other n fits is =
+    let digit = first_digit n byte [] (omega arith) is in
+    grind (arith, nat_tests)
+
+-- a digit is that of a number
+pub digit_is : (byte : ℕ) → is_ascii_digit byte ≡ true → (byte ∷ [] ≡ decimal (byte - 48)) × (byte - 48 < 2 ^ 32)
+digit_is byte is =
+    let low : 48 ≤ byte = grind (arith, nat_tests) in
+    let high : byte ≤ 57 = grind (arith, nat_tests) in
+    let same : 48 + (byte - 48) ≡ byte = omega arith in
+    (sym (decimal_digit (byte - 48) (omega arith) ∙ ap (λ d. d ∷ []) same), omega arith)

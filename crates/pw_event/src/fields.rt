@@ -1,4 +1,4 @@
-ghost use Rattle.std.specs.Prelude.{◌≡◌, ◌≢◌, ◌==◌, ◌<◌, ◌≤◌, ◌^◌, ℕ, length, position, IfSome, IfOk, MatchOption};
+ghost use Rattle.std.specs.Prelude.{◌≡◌, ◌≢◌, ◌==◌, ◌<◌, ◌≤◌, ◌^◌, ◌∷◌, [], ℕ, length, position, IfSome, IfOk, MatchOption};
 ghost use Rattle.std.specs.Fmt.{decimal};
 ghost use Rattle.std.specs.Option.{option_map};
 ghost use Rattle.pw_event.specs.Parsing.{named, is_odd, number, positive_count_read, cut, refresh, op, mode, member, after_keyword_read};
@@ -32,8 +32,31 @@ fn is_odd(word: &[u8]) -> bool
     }
 }
 
+/// The number of which this byte is the only decimal digit: most numbers of a log have one.
+fn digit_of(byte: u8) -> Option<u32>
+    ensures { MatchOption result ((n : ℕ) → n < 2 ^ 32 → byte ∷ [] ≢ decimal n)
+        (λ n. (byte ∷ [] ≡ decimal n) × (n < 2 ^ 32)) }
+{
+    if byte.is_ascii_digit() {
+        Some(u32::from(byte - b'0'))
+    } else {
+        None
+    }
+}
+
 /// The number of which the word is the decimal digits, without leading zeros.
 fn decimal(word: &[u8]) -> Option<u32>
+    ensures { MatchOption result ((n : ℕ) → n < 2 ^ 32 → word.now ≢ decimal n)
+        (λ n. (word.now ≡ decimal n) × (n < 2 ^ 32)) }
+{
+    match word {
+        [digit] => digit_of(*digit),
+        _ => parsed(word),
+    }
+}
+
+/// The same, for a word of any length.
+fn parsed(word: &[u8]) -> Option<u32>
     ensures { MatchOption result ((n : ℕ) → n < 2 ^ 32 → word.now ≢ decimal n)
         (λ n. (word.now ≡ decimal n) × (n < 2 ^ 32)) }
 {

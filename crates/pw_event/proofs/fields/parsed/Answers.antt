@@ -1,6 +1,6 @@
 use Rattle.std.proofs.Common.{ℕ, sym}
 use Rattle.pw_event.proofs.Digits.{odd_none, no_text_none, parsed_is, parsed_none}
-use Rattle.pw_event.proofs.fields.decimal.Goals as goal
+use Rattle.pw_event.proofs.fields.parsed.Goals as goal
 
 pub returns-then-is_odd : goal.returns-then-is_odd
 returns-then-is_odd c = odd_none c.args.word.now (sym c.if-is_odd.ensures)
