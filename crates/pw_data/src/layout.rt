@@ -69,6 +69,7 @@ impl Layout {
 
     /// Where the item of a name lies, in either case. It is None exactly where no item has the name. It
     /// takes no memory, and looks at few of the names, however many there are.
+    #[inline(always)]
     pub fn place(&self, name: &[u8]) -> Option<Place>
         ensures place { result ≡ place_of self.now name.now }
         ensures within { IfSome result (λ place. PlaceEndsBy (length self.now.storage) place) }

@@ -1,7 +1,7 @@
 -- What commands, records and entries that are read keep of their limits.
-use Rattle.std.proofs.Common.{◌≡◌, ℕ, zero, suc, ◌+◌, ◌<◌, ◌≤◌, Bool, true, false, cond, ◌||◌, List, [], ◌∷◌, ◌++◌, map, take, length, Option, None, Some, Result, Ok, Err, IfOk, refl, sym, ap, subst, ◌∙◌, arith, length-append}
+use Rattle.std.proofs.Common.{◌≡◌, ℕ, ◌+◌, ◌≤◌, Bool, true, false, cond, ◌||◌, List, [], ◌∷◌, ◌++◌, map, take, length, Option, None, Some, Result, Ok, IfOk, refl, sym, subst, arith, length-append}
 use Rattle.std.specs.Prelude.{◌&&◌, nat_le, nat_lt, IfSome}
-use Rattle.std.specs.List.{list_any, position, AllByRecursion, IsDistinct}
+use Rattle.std.specs.List.{position, AllByRecursion, IsDistinct}
 use Rattle.std.specs.Str.{bytes_eq}
 use Rattle.std.proofs.lemmas.Bool.{and_parts, leb-true, leb-false, ltb-false, or_parts}
 use Rattle.std.specs.Option.{option_map}
@@ -19,7 +19,7 @@ use Rattle.pw_code.specs.Valid.{HasFunctionKey}
 use Rattle.pw_sections.specs.Lines.{lines}
 use Rattle.pw_sections.specs.Steps.{◌>>=◌, refused, or_refused, is_blank, line_taken, each_line}
 use Rattle.pw_sections.specs.Words.{words, word_number}
-use Rattle.pw_pathcom.specs.Reading.{starting, named, checked, ranged, admitted, has_tcp, has_class, has_terminal, added, first_start, start_tcp, start_class, start_terminal, started, command_taken, taken_if, is_comment, is_none, line_read, lines_read, commands_of}
+use Rattle.pw_pathcom.specs.Reading.{starting, named, checked, ranged, admitted, has_tcp, has_class, has_terminal, added, first_start, start_class, start_terminal, started, command_taken, taken_if, is_comment, is_none, line_read, lines_read, commands_of}
 use Rattle.pw_pathcom.specs.Verbs.{command_of}
 use Rattle.pw_pathcom.specs.declared.commands.ClassCommand.{ClassCommand}
 use Rattle.pw_pathcom.specs.declared.commands.Commands.{Commands}
@@ -29,7 +29,7 @@ use Rattle.pw_pathcom.specs.declared.verb.Object.{Object}
 use Rattle.pw_pathcom.specs.declared.verb.Object.TheVariants as object
 use Rattle.pw_pathcom.specs.declared.verb.CommandVerb.{CommandVerb}
 use Rattle.pw_pathcom.specs.declared.verb.CommandVerb.TheVariants as verb
-use Rattle.pw_sections.specs.Entries.{keys, key_of, pairs_of, NameValue, entry_with, entry_by, entry_of, parts, with_entry, entry_read, entries_of}
+use Rattle.pw_sections.specs.Entries.{keys, key_of, pairs_of, NameValue, entry_with, entry_by, entry_of, parts, entry_read, entries_of}
 use Rattle.pw_sections.specs.Keys.{is_seen}
 use Rattle.pw_sections.specs.Records.{is_bad_record, record_read, records_of_text}
 use Rattle.pw_words.specs.Words.{Word}

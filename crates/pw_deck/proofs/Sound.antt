@@ -1,16 +1,13 @@
 -- What the sections of a deck say keeps the limits of a system.
-use Rattle.std.proofs.Common.{◌≡◌, ℕ, suc, ◌+◌, ◌<◌, ◌≤◌, Bool, true, false, cond, not, List, [], ◌∷◌, ◌++◌, map, length, Option, None, Some, Result, Ok, Err, IfOk, refl, sym, ap, subst, ◌∙◌, arith}
-use Rattle.std.specs.Prelude.{◌&&◌, ◌||◌, nat_le, nat_lt, flat_map, codes, All}
-use Rattle.std.specs.List.{list_any, filter, position, AllByRecursion}
+use Rattle.std.proofs.Common.{ℕ, ◌+◌, List, length, IfOk}
+use Rattle.std.specs.Prelude.{nat_le}
+use Rattle.std.specs.List.{AllByRecursion}
 use Rattle.std.specs.Option.{is_some}
-use Rattle.std.specs.Str.{bytes_eq}
 use Rattle.pw_base.specs.Lengths.{IsKeyLength}
-use Rattle.pw_base.specs.declared.fault.Fault.{Fault}
 use Rattle.pw_base.proofs.Plain.{all-last}
 use Rattle.pw_code.specs.Limits.{most_files}
 use Rattle.pw_code.specs.declared.file.FileInfo.{FileInfo}
-use Rattle.pw_sections.specs.Steps.{◌>>=◌}
-use Rattle.pw_pathcom.specs.Reading.{no_commands, commands_of}
+use Rattle.pw_pathcom.specs.Reading.{commands_of}
 use Rattle.pw_log_lines.specs.Fail.{failures_counted}
 use Rattle.pw_log_lines.specs.Log.{entries_counted}
 use Rattle.pw_sections.specs.Entries.{entries_of}

@@ -1,28 +1,19 @@
 -- The tables of a deck without a fault keep the limits of a system, and their numbers name what is there.
-use Rattle.std.proofs.Common.{◌≡◌, ℕ, suc, ◌+◌, ◌<◌, ◌≤◌, ◌^◌, Bool, true, false, cond, not, ltb, List, [], ◌∷◌, map, length, Option, None, Some, Result, Ok, Err, IfOk, refl, sym, ap, subst, ◌∙◌, arith}
-use Rattle.std.specs.Prelude.{◌&&◌, ◌||◌, nat_le, nat_lt, flat_map, codes}
-use Rattle.std.specs.List.{list_any, filter, position, prefix_len, AllByRecursion}
-use Rattle.std.specs.Option.{is_some}
+use Rattle.std.proofs.Common.{◌≡◌, ℕ, suc, ◌+◌, ◌<◌, Bool, true, false, cond, not, ltb, List, [], ◌∷◌, map, length, None, Some, refl, sym, ap, ◌∙◌, arith}
+use Rattle.std.specs.Prelude.{◌&&◌, ◌||◌, nat_lt, flat_map}
+use Rattle.std.specs.List.{list_any, filter, prefix_len, AllByRecursion}
 use Rattle.std.specs.Str.{bytes_eq}
-use Rattle.std.proofs.lemmas.Bool.{and_parts, leb-true}
+use Rattle.std.proofs.lemmas.Bool.{and_parts}
 use Rattle.std.proofs.lemmas.List.{length-map}
 use Rattle.std.proofs.lemmas.List.Elements.{All-from_recursion}
-use Rattle.pw_base.specs.First.{is_before, least, better, unless}
+use Rattle.pw_base.specs.First.{is_before, least, better}
 use Rattle.pw_base.specs.declared.fault.Fault.{Fault}
-use Rattle.pw_base.specs.declared.fault_code.FaultCode.TheVariants.{BadSection}
 use Rattle.pw_base.proofs.Plain.{append-none}
-use Rattle.pw_code.specs.Entry.{EntryLineModel}
-use Rattle.pw_code.specs.Limits.{most_programs, most_servers, most_entry_lines}
-use Rattle.pw_code.specs.Valid.{HasFunctionKey, IsTerminal, IsClass, IsDeckFile, HasNames, HasFew}
-use Rattle.pw_code.specs.declared.code.Code.{Code}
-use Rattle.pw_code.specs.declared.field.ScreenTable.{ScreenTable}
+use Rattle.pw_code.specs.Valid.{HasFunctionKey, IsTerminal, IsClass, IsDeckFile}
 use Rattle.pw_code.specs.declared.file.FileInfo.{FileInfo}
-use Rattle.pw_code.specs.declared.lock.LockRule.TheVariants.{ReadersShare}
-use Rattle.pw_code.specs.declared.system.ClassInfo.{ClassInfo}
 use Rattle.pw_code.specs.declared.system.System.{System}
-use Rattle.pw_code.specs.declared.system.TermInfo.{TermInfo}
-use Rattle.pw_sections.specs.Steps.{◌>>=◌, only_if, fault_at}
-use Rattle.pw_pathcom.specs.Objects.{is_known, is_added_before, unknown_terminal, unknown_class, unknown}
+use Rattle.pw_sections.specs.Steps.{only_if}
+use Rattle.pw_pathcom.specs.Objects.{is_known, is_added_before, unknown_terminal, unknown_class}
 use Rattle.pw_pathcom.specs.declared.commands.ClassCommand.{ClassCommand}
 use Rattle.pw_pathcom.specs.declared.commands.Commands.{Commands}
 use Rattle.pw_pathcom.specs.declared.commands.Started.{Started}
@@ -30,7 +21,7 @@ use Rattle.pw_pathcom.specs.declared.commands.TermCommand.{TermCommand}
 use Rattle.pw_words.specs.Words.{Word}
 use Rattle.pw_deck_tables.specs.Tables.{tcp_names, is_started, or_first, number_among_names, class_from_command, terminal_of, entries_for, with_entries}
 use Rattle.pw_deck_tables.specs.declared.objects.TermEntries.{TermEntries}
-use Rattle.pw_deck.proofs.Ranges.{InRange, FewRestarts, FewProcesses, AreEntries}
+use Rattle.pw_deck.proofs.Ranges.{FewRestarts, FewProcesses, AreEntries}
 use Rattle.pw_deck.proofs.Sound.{HasEntries, IsGoodFile}
 
 -- where the first fault is none, there is no fault

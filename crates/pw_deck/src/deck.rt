@@ -1,10 +1,9 @@
-ghost use Rattle.std.specs.Prelude.{◌≡◌, ◌≤◌, length, Ok, IfErr, IfOk, OnOk};
-ghost use Rattle.pw_base.specs.First.{Gives, Refuses};
+ghost use Rattle.std.specs.Prelude.{◌≡◌, ◌≤◌, length, Ok, IfOk};
+ghost use Rattle.pw_base.specs.First.{Gives};
 ghost use Rattle.pw_base.specs.Limits.{longest_input};
 ghost use Rattle.pw_deck.specs.Deck.{end_found, deck_in, deck_of};
 ghost use Rattle.pw_deck.specs.Parts.{parts_of};
 ghost use Rattle.pw_deck.specs.Sound.{HasValidTables};
-ghost use Rattle.pw_deck.specs.declared.deck.ParsedDeck.{ParsedDeck as SeenDeck};
 
 use crate::named::{requester_names, server_names};
 use crate::parts::Parts;
@@ -21,7 +20,6 @@ use pw_names::names::names;
 use pw_scobol::requester::Requester;
 use pw_server::server::Server;
 use std::alloc::Global;
-use std::mem::forget;
 
 /// What a deck says. Its programs are trees yet, and stand beside the tables of the system.
 #[derive(Drop)]
@@ -109,15 +107,4 @@ pub fn read_deck(alloc: Global, bytes: &[u8]) -> Result<ParsedDeck, Refusal>
     }
     let parts = read_parts(alloc, bytes)?;
     finish(alloc, bytes, parts)
-}
-
-/// Whether a deck has a fault: an `Err` is the first one, as `read_deck` gives it. What the deck says is
-/// not taken apart again, and its memory stays until the process ends: this is for a program that answers
-/// and is done.
-pub fn check_deck(alloc: Global, bytes: &[u8]) -> Result<(), Refusal>
-    ensures ok { OnOk result ((deck : SeenDeck) × (deck_of bytes.now ≡ Ok deck)) }
-    ensures fault { IfErr result (λ refusal. Refuses refusal (deck_of bytes.now)) }
-{
-    forget(read_deck(alloc, bytes)?);
-    Ok(())
 }

@@ -1,5 +1,5 @@
 -- The lines of a section, and how many there are.
-use Rattle.std.proofs.Common.{◌≡◌, ℕ, ◌+◌, ◌<◌, ◌≤◌, Bool, true, false, cond, not, List, [], ◌∷◌, ◌++◌, length, refl, ap, arith}
+use Rattle.std.proofs.Common.{◌≡◌, ℕ, ◌+◌, ◌<◌, ◌≤◌, Bool, true, false, cond, not, List, [], ◌∷◌, ◌++◌, length, refl, ap, ◌∙◌, arith}
 use Rattle.std.specs.Prelude.{◌==◌, ◌&&◌, filter}
 use Rattle.pw_base.specs.Characters.{line_feed, carriage_return}
 use Rattle.pw_sections.specs.Lines.{lines, in_front, begins_with_lf}
@@ -11,10 +11,10 @@ pub no_first : (text : List ℕ) → text ≡ [] → first_line_of (lines text) 
 no_first text none = ap first_line_of (no_lines text none)
 
 -- how many lines end with LF, and one more where the last lacks it
-abbrev ends : List ℕ → ℕ
+abbrev pub ends : List ℕ → ℕ
 ends text = length (filter (λ byte. byte == line_feed) text)
 
-abbrev bit : Bool → ℕ
+abbrev pub bit : Bool → ℕ
 bit is = cond is 1 0
 
 abbrev counted : List ℕ → ℕ
@@ -31,6 +31,17 @@ ends-cons b rest = by (b == line_feed)
     by : (is : Bool) → length (cond is (b ∷ filter (λ byte. byte == line_feed) rest) (filter (λ byte. byte == line_feed) rest)) ≡ bit is + ends rest
     by true = omega arith
     by false = omega arith
+
+-- the ends that were summed, with those that are left: the next byte is summed, and none is left
+pub summed-next : (sum count byte : ℕ) (rest behind text : List ℕ) → rest ≡ byte ∷ behind → count ≡ bit (byte == line_feed)
+    → sum + ends rest ≡ ends text → (sum + count) + ends behind ≡ ends text
+summed-next sum count byte rest behind text is here so_far =
+    let more : ends rest ≡ bit (byte == line_feed) + ends behind = ap ends is ∙ ends-cons byte behind in
+    omega arith
+
+pub summed-all : (sum : ℕ) (rest text : List ℕ) → length rest ≡ 0 → sum + ends rest ≡ ends text → sum ≡ ends text
+summed-all sum [] text none so_far = omega arith
+summed-all sum (byte ∷ rest) text none so_far = absurd (omega arith)
 
 -- the last byte
 last-counted : (b : ℕ) → counted (b ∷ []) ≡ 1

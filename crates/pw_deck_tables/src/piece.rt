@@ -1,4 +1,4 @@
-ghost use Rattle.std.specs.Prelude.{◌≡◌, ◌==◌, ◌+◌, ◌≤◌, length, filter};
+ghost use Rattle.std.specs.Prelude.{◌≡◌, ◌==◌, ◌+◌, ◌≤◌, if◌then◌else◌, length, filter};
 ghost use Rattle.pw_base.specs.Characters.{line_feed};
 ghost use Rattle.pw_base.specs.Limits.{longest_input};
 ghost use Rattle.pw_sections.specs.Lines.{lines};
@@ -47,12 +47,26 @@ pub fn section_text(section: &[u8]) -> &[u8]
     }
 }
 
-/// How many lines of a text end with LF.
+/// How many lines end with a byte: one, where it is LF.
+fn ends_with(byte: u8) -> usize
+    ensures value { result ≡ (if byte == line_feed then 1 else 0) }
+    ensures bound { result ≤ 1 }
+{
+    if byte == b'\n' { 1 } else { 0 }
+}
+
+/// How many lines of a text end with LF. It is a sum without a branch.
 fn line_ends(text: &[u8]) -> usize
     ensures value { result ≡ length (filter (λ byte. byte == line_feed) text.now) }
     ensures bound { result ≤ length text.now }
 {
-    text.iter().filter(|byte| **byte == b'\n').count()
+    let mut ends = 0;
+    let mut rest = text;
+    while let Some((byte, behind)) = rest.split_first() {
+        ends += ends_with(*byte);
+        rest = behind;
+    }
+    ends
 }
 
 /// Whether the last line of a text lacks its LF.

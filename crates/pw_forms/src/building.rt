@@ -30,6 +30,18 @@ fn complete(
     }
 }
 
+/// Takes statements out, into a list that has room for these alone. Theirs keeps its room for others.
+fn taken(alloc: Global, statements: &mut List<Statement>) -> Result<List<Statement>, Memory>
+    ensures taken { IfOk result (λ body. body ≡ statements.old) }
+    ensures left { OnOk result (statements.new ≡ []) }
+{
+    let mut from = mem::replace(statements, List::new(alloc)).into_vec();
+    let mut body = Vec::with_capacity(alloc, from.len())?;
+    body.append(&mut from)?;
+    *statements = List::from_vec(from);
+    Ok(List::from_vec(body))
+}
+
 impl ParagraphBuilder {
     /// No paragraph, and none that has begun. It takes no memory.
     pub fn new(alloc: Global) -> ParagraphBuilder
@@ -54,7 +66,7 @@ impl ParagraphBuilder {
             → self.new.paragraphs ++ behind ≡ built self.old (Closed [] (record { statements = []; paragraphs = behind }))) }
     {
         self.block.close_all(alloc)?;
-        let body = mem::replace(&mut self.block.current, List::new(alloc));
+        let body = taken(alloc, &mut self.block.current)?;
         let completed = mem::replace(&mut self.begun, begun);
         complete(&mut self.paragraphs, completed, body)
     }

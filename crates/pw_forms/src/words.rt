@@ -1,4 +1,4 @@
-ghost use Rattle.std.specs.Prelude.{◌≡◌, IfOk};
+ghost use Rattle.std.specs.Prelude.{◌≡◌, Bool, false, IfOk};
 ghost use Rattle.pw_forms.specs.Words.{table_place, is_table_word, mark_in, mark_at, mark_of, begins_piece, is_receive, is_name_token, is_register, is_item_name, token_name};
 
 use crate::mark::{FileVerb, StatementVerb, TerminalVerb, TokenMark, TransactionVerb};
@@ -6,7 +6,7 @@ use crate::statement::Operation;
 use pw_base::bytes::Bytes;
 use pw_base::memory::Memory;
 use pw_text::token::{Token, TokenKind};
-use pw_words::texts::{requester_words, server_words};
+use pw_words::texts::{piece_words, requester_words, server_words};
 use std::alloc::Global;
 
 /// The words that begin a piece, in the order in which both tables begin with them.
@@ -48,11 +48,25 @@ fn table_place(server: bool, word: &[u8]) -> Option<usize>
     }
 }
 
+/// Whether a word ends with a letter, as each word of the tables does.
+fn may_be_table_word(word: &[u8]) -> bool
+    ensures { result ≡ false → (server : Bool) → is_table_word server word.now ≡ false }
+{
+    match word.split_last() {
+        Some((last, _)) => last.to_ascii_lowercase().is_ascii_lowercase(),
+        None => false,
+    }
+}
+
 /// Whether the table has a word.
 pub fn is_table_word(server: bool, word: &[u8]) -> bool
     ensures { result ≡ is_table_word server word.now }
 {
-    table_place(server, word).is_some()
+    if may_be_table_word(word) {
+        table_place(server, word).is_some()
+    } else {
+        false
+    }
 }
 
 /// The mark at a place.
@@ -72,13 +86,21 @@ fn mark_at(place: Option<usize>) -> TokenMark
     }
 }
 
+/// What a word begins. It is the same in a server and in a requester, since both tables begin with the
+/// words that begin a piece: so it is looked for among these alone.
+fn word_mark(word: &[u8]) -> TokenMark
+    ensures { (server : Bool) → result ≡ mark_at (table_place server word.now) }
+{
+    mark_at(piece_words().find(word))
+}
+
 /// What a token begins.
 pub fn mark_of(server: bool, text: &[u8], token: Token) -> TokenMark
     ensures { result ≡ mark_of server text.now token }
 {
     match token.kind {
         TokenKind::Period => TokenMark::Period,
-        TokenKind::Word => mark_at(table_place(server, token.spelling(text))),
+        TokenKind::Word => word_mark(token.spelling(text)),
         _ => TokenMark::Other,
     }
 }

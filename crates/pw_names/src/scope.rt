@@ -88,6 +88,7 @@ impl<'a> NameScope<'a> {
     }
 
     /// The item or register of a name.
+    #[inline(always)]
     pub fn variable(&self, name: &[u8]) -> Option<Variable>
         ensures { result ≡ variable_in self.now.scope name.now }
     {

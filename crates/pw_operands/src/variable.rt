@@ -50,6 +50,7 @@ fn of_place(place: Place) -> Variable
 
 /// The register or the item of a name, in either case, in a server or in a requester. It is None
 /// exactly where there is neither. It takes no memory.
+#[inline(always)]
 pub fn variable_of(server: bool, layout: &Layout, name: &[u8]) -> Option<Variable>
     ensures { result ≡ variable_of server layout.now name.now }
 {

@@ -66,6 +66,7 @@ fn is_pic(word: &[u8]) -> bool
 }
 
 /// A word in front: a token, or a fault where it is too long. A picture follows PIC.
+#[inline(always)]
 fn word_item(word: &[u8]) -> TextItem
     ensures value { result ≡ word_item word.now }
     ensures size { result.size ≡ length word.now }
@@ -195,6 +196,7 @@ fn number_or_mark(bytes: &[u8]) -> TextItem
 }
 
 /// What stands in a line, where no picture is awaited.
+#[inline(always)]
 #[tactic(auto, unfolding(crate::specs::Items::line_item))]
 fn line_item(bytes: &[u8]) -> TextItem
     requires some { 0 < length bytes.now }

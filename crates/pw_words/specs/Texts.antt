@@ -11,6 +11,10 @@ verb_words =
     codes "MOVE" ∷ codes "MULTIPLY" ∷ codes "PERFORM" ∷ codes "READ" ∷ codes "RESTART-TRANSACTION" ∷ codes "REWRITE" ∷
     codes "SEND" ∷ codes "STOP" ∷ codes "SUBTRACT" ∷ codes "WRITE" ∷ []
 
+-- the words that begin a piece of a procedure
+abbrev pub piece_words : List Word
+piece_words = verb_words ++ codes "ELSE" ∷ codes "END-IF" ∷ []
+
 -- the other words that both languages have
 abbrev pub common_words : List Word
 common_words =

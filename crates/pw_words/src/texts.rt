@@ -1,14 +1,14 @@
 ghost use Rattle.std.specs.Prelude.{◌≡◌, Some, slice_get};
 ghost use Rattle.pw_base.specs.declared.fault_code.FaultCode.{FaultCode};
 ghost use Rattle.pw_base.specs.FaultCodes.{place, text};
-ghost use Rattle.pw_words.specs.Texts.{requester_words, server_words, pathcom_words, refusal_texts};
+ghost use Rattle.pw_words.specs.Texts.{piece_words, requester_words, server_words, pathcom_words, refusal_texts};
 
 use crate::table::Table;
 use pw_base::fault_code::FaultCode;
 
-/// The rows of a language: the verbs, the other words of both languages, and the given ones.
-macro_rules! language {
-    ($($own:literal),* $(,)?) => {
+/// The verbs, and the given rows behind them.
+macro_rules! verbs {
+    ($($behind:literal),* $(,)?) => {
         &[
             b"ACCEPT",
             b"ABORT-TRANSACTION",
@@ -31,6 +31,15 @@ macro_rules! language {
             b"STOP",
             b"SUBTRACT",
             b"WRITE",
+            $($behind),*
+        ]
+    };
+}
+
+/// The rows of a language: the verbs, the other words of both languages, and the given ones.
+macro_rules! language {
+    ($($own:literal),* $(,)?) => {
+        verbs![
             b"ELSE",
             b"END-IF",
             b"THEN",
@@ -80,6 +89,44 @@ macro_rules! rows {
     ($($row:literal),* $(,)?) => {
         &[$($row),*]
     };
+}
+
+/// The words that begin a piece of a procedure: the verbs, ELSE and END-IF. The words of a requester
+/// and those of a server begin with them.
+pub fn piece_words() -> Table<23>
+    ensures { result ≡ piece_words }
+{
+    const ROWS: &[&[u8]] = verbs![b"ELSE", b"END-IF"];
+    const INDEX: &[&[u8]] = &[
+        &[],
+        &[0, 1, 2],
+        &[3],
+        &[4],
+        &[5, 6, 7],
+        &[8, 9, 21, 22],
+        &[],
+        &[],
+        &[],
+        &[10],
+        &[],
+        &[],
+        &[],
+        &[11, 12],
+        &[],
+        &[],
+        &[13],
+        &[],
+        &[14, 15, 16],
+        &[17, 18, 19],
+        &[],
+        &[],
+        &[],
+        &[20],
+    ];
+    Table {
+        rows: ROWS,
+        index: INDEX,
+    }
 }
 
 /// The words of a requester: the verbs, then the other words of both languages, then its own.
