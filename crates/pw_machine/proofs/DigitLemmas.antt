@@ -1,9 +1,11 @@
 -- Digits that are counted up in their last place.
-use Rattle.std.proofs.Common.{◌≡◌, ℕ, zero, suc, ◌+◌, ◌*◌, ◌/◌, ◌%◌, ◌^◌, ◌<◌, ◌≤◌, Bool, true, false, ◌&&◌, List, [], ◌∷◌, length, get_or, refl, sym, ap, ◌∙◌, subst, arith}
-use Rattle.std.proofs.Math.ListN.{set, length-set}
+use Rattle.std.proofs.Common.{◌≡◌, ℕ, ◌+◌, ◌-◌, ◌*◌, ◌/◌, ◌%◌, ◌^◌, ◌<◌, ◌≤◌, Bool, true, false, ◌&&◌, List, [], ◌∷◌, ◌++◌, length, refl, sym, ap, ◌∙◌, subst, arith}
 use Rattle.std.proofs.Math.Nat.{pow-succ'}
 use Rattle.std.proofs.lemmas.Bool.Decides.{nat_tests}
+use Rattle.std.proofs.lemmas.List.Folds.{list_all-append}
 use Rattle.std.proofs.lemmas.Nat.{div-mul-add}
+use Rattle.std.specs.Prelude.{if◌then◌else◌}
+use Rattle.std.specs.Bool.{OnFalse}
 use Rattle.std.specs.Char.{is_ascii_digit}
 use Rattle.std.specs.List.{list_all}
 use Rattle.pw_picture.specs.Stored.{digit_of, value_of, digits_of}
@@ -62,51 +64,55 @@ digits-again value (char ∷ chars) h =
     ∙ ap (λ c. c ∷ digits_of (length chars) (value_of next chars)) (sym (digit_is char is))
     ∙ ap (λ l. char ∷ l) (digits-again next chars rest)
 
--- the last digit is raised
-raised_digit : (char more : ℕ) → 48 ≤ char → char + more ≤ 57 → digit_of (char + more) ≡ digit_of char + more
-raised_digit char more low high = grind (arith, nat_tests)
+-- the last of some characters
+pub value_of-last : (value char : ℕ) (front : List ℕ) → value_of value (front ++ char ∷ []) ≡ 10 * value_of value front + digit_of char
+value_of-last value char [] = refl
+value_of-last value char (first ∷ front) = value_of-last (10 * value + digit_of first) char front
 
-raised_is : (char more : ℕ) → 48 ≤ char → char + more ≤ 57 → is_ascii_digit (char + more) ≡ true
-raised_is char more low high = grind (arith, nat_tests)
+pub are-digits : (front : List ℕ) (char : ℕ) → list_all is_ascii_digit (front ++ char ∷ []) ≡ (list_all is_ascii_digit front && is_ascii_digit char)
+are-digits front char = list_all-append is_ascii_digit front (char ∷ []) ∙ ap (λ b. list_all is_ascii_digit front && b) (only (is_ascii_digit char))
+  where
+    only : (b : Bool) → (b && true) ≡ b
+    only true = refl
+    only false = refl
 
--- a digit is at least 0
-at_least : (char : ℕ) → is_ascii_digit char ≡ true → 48 ≤ char
-at_least char h = grind (arith, nat_tests)
+-- a digit
+pub at_least : (char : ℕ) → is_ascii_digit char ≡ true → (48 ≤ char) × (char ≤ 57)
+at_least char h = (grind (arith, nat_tests), grind (arith, nat_tests))
 
-value_of-raised : (value : ℕ) (chars : List ℕ) (last more : ℕ) → list_all is_ascii_digit chars ≡ true → suc last ≡ length chars → get_or chars last 0 + more ≤ 57
-    → value_of value (set chars last (get_or chars last 0 + more)) ≡ value_of value chars + more
-value_of-raised value [] last more h long room = absurd (omega (arith, long))
-value_of-raised value (char ∷ []) zero more h long room =
-    let low : 48 ≤ char = at_least char (first_holds (is_ascii_digit char) true h) in
-    ap (λ d. 10 * value + d) (raised_digit char more low room) ∙ omega arith
-value_of-raised value (char ∷ []) (suc last) more h long room = absurd (omega (arith, long))
-value_of-raised value (char ∷ next ∷ chars) zero more h long room = absurd (omega (arith, long))
-value_of-raised value (char ∷ next ∷ chars) (suc last) more h long room =
-    value_of-raised (10 * value + digit_of char) (next ∷ chars) last more (second_holds (is_ascii_digit char) (list_all is_ascii_digit (next ∷ chars)) h) (omega (arith, long)) room
+pub last_digit : (front : List ℕ) (char : ℕ) → list_all is_ascii_digit (front ++ char ∷ []) ≡ true → is_ascii_digit char ≡ true
+last_digit front char h = second_holds (list_all is_ascii_digit front) (is_ascii_digit char) (sym (are-digits front char) ∙ h)
 
-all-raised : (chars : List ℕ) (last more : ℕ) → list_all is_ascii_digit chars ≡ true → suc last ≡ length chars → get_or chars last 0 + more ≤ 57
-    → list_all is_ascii_digit (set chars last (get_or chars last 0 + more)) ≡ true
-all-raised [] last more h long room = absurd (omega (arith, long))
-all-raised (char ∷ chars) zero more h long room =
-    let low : 48 ≤ char = at_least char (first_holds (is_ascii_digit char) (list_all is_ascii_digit chars) h) in
-    both_hold (is_ascii_digit (char + more)) (list_all is_ascii_digit chars) (raised_is char more low room) (second_holds (is_ascii_digit char) (list_all is_ascii_digit chars) h)
-all-raised (char ∷ chars) (suc last) more h long room =
-    both_hold (is_ascii_digit char) (list_all is_ascii_digit (set chars last (get_or chars last 0 + more))) (first_holds (is_ascii_digit char) (list_all is_ascii_digit chars) h)
-    (all-raised chars last more (second_holds (is_ascii_digit char) (list_all is_ascii_digit chars) h) (omega (arith, long)) room)
+pub front_digits : (front : List ℕ) (char : ℕ) → list_all is_ascii_digit (front ++ char ∷ []) ≡ true → list_all is_ascii_digit front ≡ true
+front_digits front char h = first_holds (list_all is_ascii_digit front) (is_ascii_digit char) (sym (are-digits front char) ∙ h)
 
--- digits whose last one is raised are those of the sum
-pub counted_up : (chars : List ℕ) (last more : ℕ) → list_all is_ascii_digit chars ≡ true → suc last ≡ length chars → get_or chars last 0 + more ≤ 57
-    → set chars last (get_or chars last 0 + more) ≡ digits_of (length chars) (value_of 0 chars + more)
-counted_up chars last more h long room =
-    let new : List ℕ = set chars last (get_or chars last 0 + more) in
-    sym (digits-again 0 new (all-raised chars last more h long room))
-    ∙ ap (λ n. digits_of n (value_of 0 new)) (length-set chars last (get_or chars last 0 + more))
-    ∙ ap (digits_of (length chars)) (value_of-raised 0 chars last more h long room)
+pub digits_joined : (front : List ℕ) (char : ℕ) → list_all is_ascii_digit front ≡ true → 48 ≤ char → char ≤ 57 → list_all is_ascii_digit (front ++ char ∷ []) ≡ true
+digits_joined front char h low high =
+    let is : is_ascii_digit char ≡ true = grind (arith, nat_tests) in
+    are-digits front char ∙ both_hold (list_all is_ascii_digit front) (is_ascii_digit char) h is
 
-pub counted_few : (chars : List ℕ) (last more : ℕ) → list_all is_ascii_digit chars ≡ true → suc last ≡ length chars → get_or chars last 0 + more ≤ 57
-    → value_of 0 chars + more < 10 ^ length chars
-counted_few chars last more h long room =
-    let new : List ℕ = set chars last (get_or chars last 0 + more) in
+-- more in the last digit, which has room
+pub raised_last : (front : List ℕ) (char more : ℕ) → 48 ≤ char → char + more ≤ 57 → value_of 0 (front ++ (char + more) ∷ []) ≡ value_of 0 (front ++ char ∷ []) + more
+raised_last front char more low high =
+    let own : digit_of char ≡ char - 48 = grind (arith, nat_tests) in
+    let sum : digit_of (char + more) ≡ char + more - 48 = grind (arith, nat_tests) in
+    omega (arith, value_of-last 0 char front, value_of-last 0 (char + more) front, own, sum)
+
+-- or which has none, so that those in front of it are one more
+pub carried_last : (front raised : List ℕ) (char more : ℕ) → 48 ≤ char → char ≤ 57 → 57 < char + more → more ≤ 9 → value_of 0 raised ≡ value_of 0 front + 1
+    → value_of 0 (raised ++ (char + more - 10) ∷ []) ≡ value_of 0 (front ++ char ∷ []) + more
+carried_last front raised char more low high over few one =
+    let own : digit_of char ≡ char - 48 = grind (arith, nat_tests) in
+    let sum : digit_of (char + more - 10) ≡ char + more - 10 - 48 = grind (arith, nat_tests) in
+    omega (arith, value_of-last 0 char front, value_of-last 0 (char + more - 10) raised, own, sum, one)
+
+-- characters behind which digits have come to a sum, or all has stayed
+pub counted_up : (is : Bool) (chars new : List ℕ) (more : ℕ) → list_all is_ascii_digit new ≡ true → length new ≡ length chars → (is ≡ true → value_of 0 new ≡ value_of 0 chars + more)
+    → OnFalse is (new ≡ chars) → new ≡ (if is then digits_of (length chars) (value_of 0 chars + more) else chars)
+counted_up true chars new more h long sum same = sym (digits-again 0 new h) ∙ ap (λ n. digits_of n (value_of 0 new)) long ∙ ap (digits_of (length chars)) (sum refl)
+counted_up false chars new more h long sum same = same
+
+pub counted_few : (chars new : List ℕ) (more : ℕ) → length new ≡ length chars → value_of 0 new ≡ value_of 0 chars + more → value_of 0 chars + more < 10 ^ length chars
+counted_few chars new more long sum =
     let few : value_of 0 new < 10 ^ length new = value_of-few new in
-    let size : length new ≡ length chars = length-set chars last (get_or chars last 0 + more) in
-    subst (λ v. v < 10 ^ length chars) (value_of-raised 0 chars last more h long room) (subst (λ n. value_of 0 new < 10 ^ n) size few)
+    subst (λ v. v < 10 ^ length chars) sum (subst (λ n. value_of 0 new < 10 ^ n) long few)

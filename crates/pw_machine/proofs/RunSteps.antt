@@ -1,6 +1,6 @@
 -- What one step does for the two loops of a run.
 use Rattle.std.proofs.Common.{◌≡◌, ◌≢◌, ◌⊎◌, inl, inr, ℕ, ◌+◌, ◌-◌, ◌<◌, ◌≤◌, Bool, true, false, [], refl, sym, ap, ◌∙◌, subst, arith}
-use Rattle.std.specs.Prelude.{nat_eq, if◌then◌else◌}
+use Rattle.std.specs.Prelude.{nat_eq, not, if◌then◌else◌}
 use Rattle.std.proofs.lemmas.Bool.Decides.{nat_tests}
 use Rattle.pw_code.specs.declared.system.System.{System}
 use Rattle.pw_code_meaning.specs.Answers.{put}
@@ -26,6 +26,21 @@ counts_on system now next before is same =
 
 pub counts_start : (now : Config) (before : ℕ) → before ≡ now.rest.count → CountsFrom before now
 counts_start now before same = record { up = omega (arith, same); bound = λ less. absurd (omega (arith, same, less)) }
+
+-- what the test of the inner loop says
+pub goes_on-is : (d : Config) (before : ℕ) → true ≡ (if d.rest.at_verb then false else nat_eq d.rest.count before) → (d.rest.at_verb ≡ false) × (d.rest.count ≡ before)
+goes_on-is d before is = pick d.rest.at_verb (nat_eq d.rest.count before) refl refl is
+  where
+    pick : (a b : Bool) → d.rest.at_verb ≡ a → nat_eq d.rest.count before ≡ b → true ≡ (if a then false else b) → (d.rest.at_verb ≡ false) × (d.rest.count ≡ before)
+    pick true b v e h = absurd (cc)
+    pick false true v e h = (v, grind (arith, nat_tests))
+    pick false false v e h = absurd (cc)
+
+pub test-on : (v b : Bool) → v ≡ false → b ≡ (if v then false else b)
+test-on v b is = sym (ap (λ a. if a then false else b) is)
+
+pub test-off : (v b : Bool) → v ≡ true → not v ≡ (if v then false else b)
+test-off v b is = ap not is ∙ sym (ap (λ a. if a then false else b) is)
 
 -- ---- the measures
 

@@ -14,7 +14,6 @@ use crate::arms::{
 use crate::asks::{display, display_screen, operate, read_record, receive, send};
 use crate::calls::{call, leave};
 use crate::conditions::holds;
-use crate::registers::MachineRegisters;
 use crate::stack::instr_at;
 use crate::top::Top;
 use crate::turns::{count, end_paragraph, fault, go_over, tested, turn};
@@ -131,7 +130,7 @@ fn act(system: &System, instr: &Instr, top: &mut Top, context: &mut Context) -> 
         Instr::Jump(over) => go_over(top, *over),
         Instr::ParagraphEnd(start) => end_paragraph(top, context, *start),
         Instr::Until { turn, cond } => {
-            let found = holds(MachineRegisters::of(context), top.storage.as_slice(), cond);
+            let found = holds(context, top.storage.as_slice(), cond);
             tested(top, context, *turn, found)?;
         }
         Instr::NoCode => fault(context, 204),

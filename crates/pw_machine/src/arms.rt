@@ -34,7 +34,7 @@ fn branch(top: &mut Top, context: &mut Context, cond: &Cond, over: u32)
         ≡ with_taken (steps.holds_here (config_of top.old context.old) cond.now) (steps.branch over) (config_of top.old context.old) }
     ensures stays { StaysAt (config_of top.old context.old) (config_of top.new context.new) }
 {
-    match holds(MachineRegisters::of(context), top.storage.as_slice(), cond) {
+    match holds(context, top.storage.as_slice(), cond) {
         Some(true) => go_over(top, 0),
         Some(false) => go_over(top, over),
         None => fault(context, 203),
@@ -71,8 +71,7 @@ fn move_to(
     ensures stays { StaysAt (config_of top.old context.old) (config_of top.new context.new) }
 {
     let alloc = context.screen.cells.allocator();
-    let registers = MachineRegisters::of(context);
-    if move_all(alloc, registers, top.storage.as_mut_slice(), from, to)? {
+    if move_all(alloc, context, top.storage.as_mut_slice(), from, to)? {
         go_over(top, 0);
     } else {
         fault(context, 203);
@@ -110,8 +109,7 @@ fn calculate(top: &mut Top, context: &mut Context, arithmetic: &Arithmetic, over
         ≡ steps.computes arithmetic.now (goes_over 0) (goes_over over) (config_of top.old context.old) }
     ensures stays { StaysAt (config_of top.old context.old) (config_of top.new context.new) }
 {
-    let registers = MachineRegisters::of(context);
-    match compute(registers, top.storage.as_mut_slice(), arithmetic) {
+    match compute(context, top.storage.as_mut_slice(), arithmetic) {
         Some(true) => go_over(top, over),
         Some(false) => go_over(top, 0),
         None => fault(context, 203),

@@ -3,7 +3,7 @@ ghost use Rattle.std.specs.Char.{is_ascii_digit};
 ghost use Rattle.std.specs.List.{list_all};
 ghost use Rattle.pw_code.specs.Places.{IsOperand, IsComparison, IsCond, picture_of};
 ghost use Rattle.pw_code_meaning.specs.Conditions.{holds_by, compared, of_two, is_numeric, is_numeric_item, are_signed_digits, comparison_holds, all_hold, any_holds, code_condition_holds};
-ghost use Rattle.pw_code_meaning.specs.Reading.{Registers, value_in, read};
+ghost use Rattle.pw_code_meaning.specs.Reading.{Registers, registers_of, value_in, read};
 ghost use Rattle.pw_tree_meaning.specs.Values.{is_number_operand};
 ghost use Rattle.pw_machine.specs.Views.{registers_by, taken_by, IsTaken};
 
@@ -16,6 +16,7 @@ use crate::spot::MachineOperand;
 use crate::value::number_now;
 use pw_base::list::List;
 use pw_code::cond::{Comparison, ComparisonOperator, Cond};
+use pw_code::context::Context;
 use pw_code::operand::InstructionOperand;
 use pw_code::place::Kind;
 use std::cmp::Ordering;
@@ -95,10 +96,9 @@ fn is_number(operand: &InstructionOperand) -> bool
     }
 }
 
-/// How two operands compare at this moment, None exactly where a subscript is outside: two numbers of one kind as they stand,
-/// and any two at once.
-#[inline(always)]
-fn order_of(
+/// How two operands compare at this moment, None exactly where a subscript is outside: two numbers by their values.
+#[inline(never)]
+fn order_of_any(
     registers: MachineRegisters,
     storage: &[u8],
     left: &InstructionOperand,
@@ -108,9 +108,6 @@ fn order_of(
     requires right { IsOperand (length storage.now) right.now }
     ensures { result ≡ of_two compared (read (registers_by registers) storage.now left.now) (read (registers_by registers) storage.now right.now) }
 {
-    if let Some(found) = order_alike(registers, storage, left, right) {
-        return Some(found);
-    }
     if is_number(left) && is_number(right) {
         let one = number_now(registers, storage, left)?;
         let two = number_now(registers, storage, right)?;
@@ -121,11 +118,30 @@ fn order_of(
     Some(compared(storage, left, a, right, b))
 }
 
+/// How two operands compare at this moment, None exactly where a subscript is outside: two numbers of one kind as they stand.
+#[inline(always)]
+fn order_of(
+    context: &Context,
+    storage: &[u8],
+    left: &InstructionOperand,
+    right: &InstructionOperand,
+) -> Option<Ordering>
+    requires left { IsOperand (length storage.now) left.now }
+    requires right { IsOperand (length storage.now) right.now }
+    ensures { result ≡ of_two compared (read (registers_of context.now) storage.now left.now) (read (registers_of context.now) storage.now right.now) }
+{
+    let alike = order_alike(MachineRegisters::of(context), storage, left, right);
+    if alike.is_some() {
+        return alike;
+    }
+    order_of_any(MachineRegisters::of(context), storage, left, right)
+}
+
 /// Whether a comparison holds at this moment, None exactly where a subscript is outside.
 #[inline(always)]
-fn comparison_holds(registers: MachineRegisters, storage: &[u8], one: &Comparison) -> Option<bool>
+fn comparison_holds(context: &Context, storage: &[u8], one: &Comparison) -> Option<bool>
     requires { IsComparison (length storage.now) one.now }
-    ensures { result ≡ comparison_holds (registers_by registers) storage.now one.now }
+    ensures { result ≡ comparison_holds (registers_of context.now) storage.now one.now }
 {
     match one {
         Comparison::Compare {
@@ -134,11 +150,11 @@ fn comparison_holds(registers: MachineRegisters, storage: &[u8], one: &Compariso
             operator,
             right,
         } => {
-            let found = order_of(registers, storage, left, right)?;
+            let found = order_of(context, storage, left, right)?;
             Some(holds_by(*operator, found) != *negated)
         }
         Comparison::Numeric { operand, negated } => {
-            let a = taken(registers, storage, operand)?;
+            let a = taken(MachineRegisters::of(context), storage, operand)?;
             Some(is_numeric(storage, operand, a) != *negated)
         }
     }
@@ -146,13 +162,13 @@ fn comparison_holds(registers: MachineRegisters, storage: &[u8], one: &Compariso
 
 /// Whether each of the comparisons holds, None exactly where a subscript is outside. All of them are read,
 /// whatever one gives.
-fn all_hold(registers: MachineRegisters, storage: &[u8], all: &[Comparison]) -> Option<bool>
+fn all_hold(context: &Context, storage: &[u8], all: &[Comparison]) -> Option<bool>
     requires { All (IsComparison (length storage.now)) all.now }
-    ensures { result ≡ all_hold (registers_by registers) storage.now all.now }
+    ensures { result ≡ all_hold (registers_of context.now) storage.now all.now }
 {
     let mut holds = true;
     for one in all {
-        let found = comparison_holds(registers, storage, one)?;
+        let found = comparison_holds(context, storage, one)?;
         holds = holds && found;
     }
     Some(holds)
@@ -160,32 +176,28 @@ fn all_hold(registers: MachineRegisters, storage: &[u8], all: &[Comparison]) -> 
 
 /// Whether in one of the lists each comparison holds, None exactly where a subscript is outside.
 #[inline(never)]
-fn any_holds(
-    registers: MachineRegisters,
-    storage: &[u8],
-    lists: &[List<Comparison>],
-) -> Option<bool>
+fn any_holds(context: &Context, storage: &[u8], lists: &[List<Comparison>]) -> Option<bool>
     requires { All (All (IsComparison (length storage.now))) lists.now }
-    ensures { result ≡ any_holds (registers_by registers) storage.now lists.now }
+    ensures { result ≡ any_holds (registers_of context.now) storage.now lists.now }
 {
     let mut holds = false;
     for all in lists {
-        let found = all_hold(registers, storage, all.as_slice())?;
+        let found = all_hold(context, storage, all.as_slice())?;
         holds = holds || found;
     }
     Some(holds)
 }
 
 /// Whether a condition holds at this moment, None exactly where a subscript is outside: one comparison at once.
-pub fn holds(registers: MachineRegisters, storage: &[u8], cond: &Cond) -> Option<bool>
+pub fn holds(context: &Context, storage: &[u8], cond: &Cond) -> Option<bool>
     requires { IsCond (length storage.now) cond.now }
-    ensures { result ≡ code_condition_holds (registers_by registers) storage.now cond.now }
+    ensures { result ≡ code_condition_holds (registers_of context.now) storage.now cond.now }
 {
     let lists = cond.any.as_slice();
     if let [all] = lists {
         if let [one] = all.as_slice() {
-            return comparison_holds(registers, storage, one);
+            return comparison_holds(context, storage, one);
         }
     }
-    any_holds(registers, storage, lists)
+    any_holds(context, storage, lists)
 }

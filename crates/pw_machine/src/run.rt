@@ -96,8 +96,10 @@ fn run(system: &System, top: &mut Top, context: &mut Context) -> Result<(), Memo
     // step goes on in the code, or goes back to a place that waits behind a PERFORM or a CALL.
     'verb: while !context.at_verb {
         let before = context.count;
-        'count: while !context.at_verb && context.count == before {
+        let mut goes_on = true;
+        'count: while goes_on {
             step(system, top, context)?;
+            goes_on = !context.at_verb && context.count == before;
         }
     }
     Ok(())

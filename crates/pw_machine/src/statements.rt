@@ -2,7 +2,7 @@ ghost use Rattle.std.specs.Prelude.{◌≡◌, ◌≢◌, true, ◌≤◌, ◌+�
 ghost use Rattle.std.specs.Bool.{OnFalse};
 ghost use Rattle.pw_code.specs.Places.{IsOperand, IsPlace};
 ghost use Rattle.pw_code_meaning.specs.Moves.{moves};
-ghost use Rattle.pw_code_meaning.specs.Reading.{spots_of};
+ghost use Rattle.pw_code_meaning.specs.Reading.{registers_of, spots_of};
 ghost use Rattle.pw_code.specs.Instrs.{IsArithmetic};
 ghost use Rattle.pw_machine.specs.Statements.{moved_all, computed_all};
 ghost use Rattle.pw_machine.specs.Views.{registers_by, spot_by, taken_by, IsSpot, IsTaken};
@@ -15,6 +15,7 @@ use crate::registers::MachineRegisters;
 use crate::spot::{MachineOperand, MachineSpot};
 use crate::value::number_now;
 use pw_base::memory::Memory;
+use pw_code::context::Context;
 use pw_code::instr::Arithmetic;
 use pw_code::operand::InstructionOperand;
 use pw_code::place::{Kind, StoragePlace};
@@ -62,17 +63,17 @@ fn move_to_each(
 /// MOVE to one place. It is false exactly where a subscript is outside, and then nothing is moved. It takes no memory.
 #[inline(always)]
 fn move_one(
-    registers: MachineRegisters,
+    context: &Context,
     storage: &mut [u8],
     from: &InstructionOperand,
     to: &StoragePlace,
 ) -> bool
     requires from { IsOperand (length storage.old) from.now }
     requires to { IsPlace (length storage.old) to.now }
-    ensures moved { (if result then Some storage.new else None) ≡ moved_all (registers_by registers) storage.old from.now (to.now ∷ []) }
+    ensures moved { (if result then Some storage.new else None) ≡ moved_all (registers_of context.now) storage.old from.now (to.now ∷ []) }
     ensures same { OnFalse result (storage.new ≡ storage.old) }
 {
-    let Some(target) = spot_of(registers, storage, to) else {
+    let Some(target) = spot_of(MachineRegisters::of(context), storage, to) else {
         return false;
     };
     if let Kind::Number {
@@ -81,12 +82,12 @@ fn move_one(
         signed,
     } = target.kind
     {
-        let Some(value) = number_now(registers, storage, from) else {
+        let Some(value) = number_now(MachineRegisters::of(context), storage, from) else {
             return false;
         };
         number_to(storage, target, digits, places, signed, value);
     } else {
-        let Some(source) = taken(registers, storage, from) else {
+        let Some(source) = taken(MachineRegisters::of(context), storage, from) else {
             return false;
         };
         text_value_to(storage, from, source, target);
@@ -122,34 +123,31 @@ fn move_to_all(
 #[inline(always)]
 pub fn move_all(
     alloc: Global,
-    registers: MachineRegisters,
+    context: &Context,
     storage: &mut [u8],
     from: &InstructionOperand,
     to: &[StoragePlace],
 ) -> Result<bool, Memory>
     requires from { IsOperand (length storage.old) from.now }
     requires to { All (IsPlace (length storage.old)) to.now }
-    ensures moved { IfOk result (λ done. (if done then Some storage.new else None) ≡ moved_all (registers_by registers) storage.old from.now to.now) }
+    ensures moved { IfOk result (λ done. (if done then Some storage.new else None) ≡ moved_all (registers_of context.now) storage.old from.now to.now) }
     ensures same { IfOk result (λ done. OnFalse done (storage.new ≡ storage.old)) }
 {
     match to {
-        [target] => Ok(move_one(registers, storage, from, target)),
-        _ => move_to_all(alloc, registers, storage, from, to),
+        [target] => Ok(move_one(context, storage, from, target)),
+        _ => move_to_all(alloc, MachineRegisters::of(context), storage, from, to),
     }
 }
 
 /// Arithmetic by the numbers of its operands: these and the receiver are taken first, None exactly where a subscript is outside.
 /// It is false on a size error. Nothing is stored then.
 #[inline(never)]
-fn compute_numbers(
-    registers: MachineRegisters,
-    storage: &mut [u8],
-    arithmetic: &Arithmetic,
-) -> Option<bool>
+fn compute_numbers(context: &Context, storage: &mut [u8], arithmetic: &Arithmetic) -> Option<bool>
     requires { IsArithmetic (length storage.old) arithmetic.now }
-    ensures stored { option_map (λ done. (if done then Some storage.new else None)) result ≡ computed_all (registers_by registers) storage.old arithmetic.now }
+    ensures stored { option_map (λ done. (if done then Some storage.new else None)) result ≡ computed_all (registers_of context.now) storage.old arithmetic.now }
     ensures same { result ≢ Some true → storage.new ≡ storage.old }
 {
+    let registers = MachineRegisters::of(context);
     let first = number_now(registers, storage, &arithmetic.first)?;
     let second = number_now(registers, storage, &arithmetic.second)?;
     let receiver = spot_of(registers, storage, &arithmetic.receiver)?;
@@ -159,17 +157,13 @@ fn compute_numbers(
 /// Arithmetic: both operands and the receiver are taken first, None exactly where a subscript is outside. It is
 /// false on a size error. Nothing is stored then.
 #[inline(always)]
-pub fn compute(
-    registers: MachineRegisters,
-    storage: &mut [u8],
-    arithmetic: &Arithmetic,
-) -> Option<bool>
+pub fn compute(context: &Context, storage: &mut [u8], arithmetic: &Arithmetic) -> Option<bool>
     requires { IsArithmetic (length storage.old) arithmetic.now }
-    ensures stored { option_map (λ done. (if done then Some storage.new else None)) result ≡ computed_all (registers_by registers) storage.old arithmetic.now }
+    ensures stored { option_map (λ done. (if done then Some storage.new else None)) result ≡ computed_all (registers_of context.now) storage.old arithmetic.now }
     ensures same { result ≢ Some true → storage.new ≡ storage.old }
 {
-    if counted(registers, storage, arithmetic) {
+    if counted(context, storage, arithmetic) {
         return Some(true);
     }
-    compute_numbers(registers, storage, arithmetic)
+    compute_numbers(context, storage, arithmetic)
 }

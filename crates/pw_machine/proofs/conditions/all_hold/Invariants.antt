@@ -2,10 +2,10 @@
 use Rattle.std.proofs.Common.{◌≡◌, Some, drop}
 use Rattle.std.specs.Prelude.{◌&&◌}
 use Rattle.pw_code_meaning.specs.Conditions.{all_hold, of_both}
-use Rattle.pw_machine.specs.Views.{registers_by}
+use Rattle.pw_code_meaning.specs.Reading.{registers_of}
 use Rattle.pw_machine.proofs.conditions.all_hold.Given as goal
 
 abbrev pub invariant-loop-one : goal.invariant-loop-one
 invariant-loop-one l =
-    of_both (λ a b. a && b) (Some l.holds) (all_hold (registers_by l.registers) l.storage (drop l.one-index l.all))
-    ≡ all_hold (registers_by l.registers) l.storage l.all
+    of_both (λ a b. a && b) (Some l.holds) (all_hold (registers_of l.context) l.storage (drop l.one-index l.all))
+    ≡ all_hold (registers_of l.context) l.storage l.all

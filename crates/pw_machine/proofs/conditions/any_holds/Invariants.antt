@@ -2,10 +2,10 @@
 use Rattle.std.proofs.Common.{◌≡◌, Some, drop}
 use Rattle.std.specs.Prelude.{◌||◌}
 use Rattle.pw_code_meaning.specs.Conditions.{any_holds, of_both}
-use Rattle.pw_machine.specs.Views.{registers_by}
+use Rattle.pw_code_meaning.specs.Reading.{registers_of}
 use Rattle.pw_machine.proofs.conditions.any_holds.Given as goal
 
 abbrev pub invariant-loop-all : goal.invariant-loop-all
 invariant-loop-all l =
-    of_both (λ a b. a || b) (Some l.holds) (any_holds (registers_by l.registers) l.storage (drop l.all-index l.lists))
-    ≡ any_holds (registers_by l.registers) l.storage l.lists
+    of_both (λ a b. a || b) (Some l.holds) (any_holds (registers_of l.context) l.storage (drop l.all-index l.lists))
+    ≡ any_holds (registers_of l.context) l.storage l.lists

@@ -1,22 +1,10 @@
--- The digits with the last one raised are those of the sum.
-use Rattle.std.proofs.Common.{◌≡◌, suc, ◌-◌, ◌+◌, ◌≤◌, true, length, get_or, sym, ◌∙◌, arith}
-use Rattle.std.specs.Char.{is_ascii_digit}
-use Rattle.std.specs.List.{list_all}
-use Rattle.pw_machine.proofs.DigitLemmas.{counted_up, counted_few}
+-- All characters are digits behind it too, as many as before.
+use Rattle.pw_machine.proofs.DigitLemmas.{counted_few, counted_up}
 use Rattle.pw_machine.proofs.counting.count_up.Goals as goal
 
-pub returns-clause-sum : goal.returns-clause-sum
-returns-clause-sum c =
-    let digits = c.args.digits.now in
-    let all : list_all is_ascii_digit digits ≡ true = cc (c.are_digits.ensures, c.if-not-are_digits.false) in
-    let long : suc (length digits - 1) ≡ length digits = omega (arith, c.requires.some) in
-    let room : get_or digits (length digits - 1) 0 + c.args.more ≤ 57 = omega (arith, c.if-digit-more.false, c.requires.few) in
-    counted_up digits (length digits - 1) c.args.more all long room
+pub returns-then-are_digits-clause-sum : goal.returns-then-are_digits-clause-sum
+returns-then-are_digits-clause-sum c =
+    counted_up c.raised.result c.args.digits.now c.raised.new.digits c.args.more c.raised.ensures.digits c.raised.auto.digits c.raised.ensures.sum c.raised.ensures.same
 
-pub returns-clause-fits : goal.returns-clause-fits
-returns-clause-fits c =
-    let digits = c.args.digits.now in
-    let all : list_all is_ascii_digit digits ≡ true = cc (c.are_digits.ensures, c.if-not-are_digits.false) in
-    let long : suc (length digits - 1) ≡ length digits = omega (arith, c.requires.some) in
-    let room : get_or digits (length digits - 1) 0 + c.args.more ≤ 57 = omega (arith, c.if-digit-more.false, c.requires.few) in
-    λ done. counted_few digits (length digits - 1) c.args.more all long room
+pub returns-then-are_digits-clause-fits : goal.returns-then-are_digits-clause-fits
+returns-then-are_digits-clause-fits c = λ done. counted_few c.args.digits.now c.raised.new.digits c.args.more c.raised.auto.digits (c.raised.ensures.sum done)

@@ -5,8 +5,8 @@ use Rattle.pw_picture.specs.Stored.{digits_of, value_of}
 use Rattle.pw_picture.specs.declared.picture.Picture.TheVariants.{Number as NumberPicture}
 use Rattle.pw_terminal.specs.Shown.{written}
 use Rattle.pw_code.specs.Places.{IsOperand, IsPlace}
-use Rattle.pw_code_meaning.specs.Reading.{at_this_moment, chars_at, spot_of}
-use Rattle.pw_machine.specs.Views.{registers_by, spot_by}
+use Rattle.pw_code_meaning.specs.Reading.{at_this_moment, chars_at, registers_of, spot_of}
+use Rattle.pw_machine.specs.Views.{spot_by}
 use Rattle.pw_machine.proofs.CountingLemmas.{counted_sum, spot_as_written, unsigned_picture, unsigned_size}
 use Rattle.pw_machine.proofs.counting.counted.Goals as goal
 
@@ -14,12 +14,12 @@ pub returns-in-Some-spot_of-clause-sum : goal.returns-in-Some-spot_of-clause-sum
 returns-in-Some-spot_of-clause-sum c =
     let spot = spot_by c.in-Some-spot_of.spot in
     let storage = c.args.storage.now in
-    let registers = registers_by c.args.registers in
+    let registers = registers_of c.args.context.now in
     let place = c.in-Add-Item.place in
     let number = c.in-Number in
     let plain : number.signed ≡ false = search rules in
     let same : place ≡ c.args.arithmetic.now.receiver = search rules in
-    let there : Some spot ≡ spot_of registers storage place = c.in-Some-spot_of.ensures.spot in
+    let there : Some spot ≡ spot_of registers storage place = c.in-Some-spot_of.ensures.spot ∙ ap (λ r. spot_of r storage place) c.of.ensures in
     let item : IsPlace (length storage) place = subst (λ o. IsOperand (length storage) o) c.in-Add-Item.is-1 c.requires.second in
     let written_as = spot_as_written place (at_this_moment registers storage place.at place.table) spot there in
     let size = unsigned_size place.kind place.size number.digits number.places number.signed number.is plain item.picture in
