@@ -9,6 +9,9 @@ use pw_base::bytes::Bytes;
 use pw_base::memory::Memory;
 use std::alloc::Global;
 
+/// How many records are compared at once.
+const GROUP: u32 = 4;
+
 /// The records of the new image that differ from those of the old one, which is as long (docs/IMAGE.md). It costs the
 /// bytes of one image. An image with more than 2^32 - 1 records is `Memory`.
 pub fn changes(alloc: Global, old: &[u8], new: &[u8]) -> Result<Changes, Memory>
@@ -19,14 +22,33 @@ pub fn changes(alloc: Global, old: &[u8], new: &[u8]) -> Result<Changes, Memory>
         return Err(Memory);
     };
     let mut changed = Vec::new(alloc);
-    if count > 0 {
-        add_between(alloc, &mut changed, old, new, 0, count)?;
-    }
+    add_groups(alloc, &mut changed, old, new, count)?;
     Ok(Changes::from_records(changed))
 }
 
-/// Puts those of so many records of the new image, from a number on, that differ behind the others. Records that are
-/// equal in both images are passed over together: where some differ, each half is looked at by itself.
+/// Puts those of so many records of the new image, from the first on, that differ behind the others, group by group.
+fn add_groups(
+    alloc: Global,
+    changed: &mut Vec<Changed>,
+    old: &[u8],
+    new: &[u8],
+    count: u32,
+) -> Result<(), Memory>
+    requires length { length old.now ≡ length new.now }
+    requires within { count ≤ record_count (length new.now) }
+    ensures { OnOk result (changed.new.items ≡ changed.old.items ++ changed_between old.now new.now 0 count) }
+{
+    let mut from = 0;
+    while from < count {
+        let group = (count - from).min(GROUP);
+        add_between(alloc, changed, old, new, from, group)?;
+        from += group;
+    }
+    Ok(())
+}
+
+/// Puts those of so many records of the new image, from a number on, that differ behind the others. Where all are equal in
+/// both images none is looked at by itself.
 fn add_between(
     alloc: Global,
     changed: &mut Vec<Changed>,
@@ -44,12 +66,27 @@ fn add_between(
     if records_between(old, from, count) == records_between(new, from, count) {
         return Ok(());
     }
-    if count == 1 {
-        return add_changed(alloc, changed, old, new, from);
+    add_each(alloc, changed, old, new, from, count)
+}
+
+/// Puts the same records behind the others, and looks at each by itself.
+fn add_each(
+    alloc: Global,
+    changed: &mut Vec<Changed>,
+    old: &[u8],
+    new: &[u8],
+    from: u32,
+    count: u32,
+) -> Result<(), Memory>
+    requires length { length old.now ≡ length new.now }
+    requires within { from + count ≤ record_count (length new.now) }
+    requires fits { from + count < 2 ^ 32 }
+    ensures { OnOk result (changed.new.items ≡ changed.old.items ++ changed_between old.now new.now from count) }
+{
+    for place in 0..count {
+        add_changed(alloc, changed, old, new, from + place)?;
     }
-    let half = count / 2;
-    add_between(alloc, changed, old, new, from, half)?;
-    add_between(alloc, changed, old, new, from + half, count - half)
+    Ok(())
 }
 
 /// Puts a record of the new image behind the others, where it differs from that of the old one. An `Err` leaves the

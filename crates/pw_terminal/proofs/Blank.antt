@@ -3,12 +3,7 @@ use Rattle.std.proofs.Common.{◌≡◌, ℕ, zero, suc, ◌+◌, ◌-◌, List,
 use Rattle.std.proofs.lemmas.List.{append-nil, drop-replicate}
 use Rattle.std.specs.Prelude.{replicate}
 use Rattle.pw_terminal.specs.Screen.{row_line, row_lines, trimmed}
-
--- nothing is left of spaces without the spaces at their end
-blank-trimmed : (n : ℕ) → trimmed (replicate n 32) ≡ []
-unfolding trimmed
-blank-trimmed zero = refl
-blank-trimmed (suc n) = rw (blank-trimmed n) refl
+use Rattle.pw_terminal.proofs.Trimmed.{blank-trimmed}
 
 -- and nothing of the first of them
 first-trimmed : (m n : ℕ) → trimmed (take m (replicate n 32)) ≡ []

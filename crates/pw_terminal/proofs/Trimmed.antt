@@ -1,6 +1,7 @@
 -- A row without the spaces at its end, cell by cell from the end.
-use Rattle.std.proofs.Common.{◌≡◌, ◌≢◌, ℕ, ◌+◌, ◌-◌, ◌<◌, ◌≤◌, List, [], ◌∷◌, ◌++◌, length, get_or, take, refl, ap, ◌∙◌, sym, arith}
-use Rattle.std.proofs.lemmas.List.{take_more}
+use Rattle.std.proofs.Common.{◌≡◌, ◌≢◌, ℕ, zero, suc, ◌+◌, ◌-◌, ◌<◌, ◌≤◌, List, [], ◌∷◌, ◌++◌, length, get_or, take, drop, refl, ap, ◌∙◌, sym, arith}
+use Rattle.std.proofs.lemmas.List.{take-append-drop, take_more}
+use Rattle.std.specs.Prelude.{replicate}
 use Rattle.pw_terminal.specs.Screen.{before_rest, trimmed}
 
 -- a row of no cells stays
@@ -8,11 +9,27 @@ pub trimmed-nil : trimmed [] ≡ []
 unfolding trimmed
 trimmed-nil = refl
 
+-- nothing is left of spaces
+pub blank-trimmed : (n : ℕ) → trimmed (replicate n 32) ≡ []
+unfolding trimmed
+blank-trimmed zero = refl
+blank-trimmed (suc n) = rw (blank-trimmed n) refl
+
+-- spaces at the end go
+spaces-behind : (n : ℕ) (cells : List ℕ) → trimmed (cells ++ replicate n 32) ≡ trimmed cells
+unfolding trimmed
+spaces-behind n [] = blank-trimmed n
+spaces-behind n (cell ∷ cells) = ap (before_rest cell) (spaces-behind n cells)
+
+-- the part of a row that ends before spaces is trimmed as the row
+pub trimmed-front : (row : List ℕ) (end : ℕ) → drop end row ≡ replicate (length (drop end row)) 32 → trimmed (take end row) ≡ trimmed row
+trimmed-front row end blank =
+    sym (spaces-behind (length (drop end row)) (take end row))
+    ∙ (ap (λ (run : List ℕ). trimmed (take end row ++ run)) (sym blank) ∙ ap trimmed (take-append-drop end row))
+
 -- a space at the end goes
 pub trimmed-space : (cells : List ℕ) → trimmed (cells ++ 32 ∷ []) ≡ trimmed cells
-unfolding trimmed
-trimmed-space [] = refl
-trimmed-space (cell ∷ cells) = ap (before_rest cell) (trimmed-space cells)
+trimmed-space = spaces-behind 1
 
 -- a row that ends with another cell stays
 pub trimmed-cell : (cells : List ℕ) (last : ℕ) → last ≢ 32 → trimmed (cells ++ last ∷ []) ≡ cells ++ last ∷ []

@@ -1,6 +1,6 @@
 use Rattle.std.proofs.Common.{◌≡◌, ◌≤◌, length, take}
 use Rattle.pw_terminal.specs.Screen.{trimmed}
-use Rattle.pw_terminal.proofs.printing.trim.Given as goal
+use Rattle.pw_terminal.proofs.printing.trim_cells.Given as goal
 
 abbrev pub invariant-loop-end : goal.invariant-loop-end
 invariant-loop-end l = record {

@@ -1,6 +1,6 @@
 use Rattle.std.proofs.Common.{arith, rules, ◌∙◌}
 use Rattle.pw_terminal.proofs.Trimmed.{trimmed-nil, trimmed-take_cell, trimmed-take_space}
-use Rattle.pw_terminal.proofs.printing.trim.Goals as goal
+use Rattle.pw_terminal.proofs.printing.trim_cells.Goals as goal
 
 pub loop-end-preserved : goal.loop-end-preserved
 loop-end-preserved c = record {
