@@ -31,6 +31,11 @@ is_all _ = false
 abbrev pub behind_end : Context → Context
 behind_end context = closed (unit_end_put (opened context))
 
+-- what stands in an image before its cells
+abbrev pub number_bytes : Context → List ℕ
+number_bytes context =
+    mark ++ (count_bytes context ++ (truth context.in_unit ∷ [] ++ (truth (is_advisory context.course) ∷ [])))
+
 -- what stands in an image before the number of its programs
 abbrev pub head_bytes : Context → List ℕ
 head_bytes context =

@@ -5,7 +5,7 @@ ghost use Rattle.std.specs.Int.{to_be_bytes, w32};
 ghost use Rattle.std.specs.List.{flat_map};
 ghost use Rattle.std.specs.Option.{option_copied};
 ghost use Rattle.pw_image.specs.Image.{frame_bytes, image_of, return_bytes};
-ghost use Rattle.pw_entry_tests.specs.Images.{IsRestBehind, behind_end, head_bytes, is_all, left_of};
+ghost use Rattle.pw_entry_tests.specs.Images.{IsRestBehind, behind_end, head_bytes, is_all, left_of, number_bytes};
 ghost use Rattle.pw_entry_tests.specs.Known.{IsFewCounted};
 
 use pw_code::context::{Context, Frame, Return};
@@ -92,6 +92,67 @@ fn behind_word<'a>(left: Option<&'a [u8]>, number: u64) -> Option<&'a [u8]>
     behind(left, &[bytes[4], bytes[5], bytes[6], bytes[7]])
 }
 
+/// The mark and the numbers before the cells of an image, with these counts in place of those of the context.
+fn numbers_of(
+    context: &Context,
+    phase: u32,
+    attempt: u32,
+    shown: u32,
+    units: u32,
+    in_unit: bool,
+) -> [u8; 31]
+    ensures { result ≡ number_bytes (record context.now {
+      phase = phase;
+      attempt = attempt;
+      shown = shown;
+      units = units;
+      in_unit = in_unit;
+    }) }
+{
+    let [t0, t1] = context.termination.to_be_bytes();
+    let [r0, r1, r2, r3] = context.restarts.to_be_bytes();
+    let [p0, p1, p2, p3] = phase.to_be_bytes();
+    let [a0, a1, a2, a3] = attempt.to_be_bytes();
+    let [s0, s1, s2, s3] = shown.to_be_bytes();
+    let [e0, e1, e2, e3] = context.entries.to_be_bytes();
+    let [u0, u1, u2, u3] = units.to_be_bytes();
+    let [m0, m1, m2] = MARK;
+    let advisory = context.course.is_advisory() as u8;
+    [
+        m0,
+        m1,
+        m2,
+        t0,
+        t1,
+        r0,
+        r1,
+        r2,
+        r3,
+        p0,
+        p1,
+        p2,
+        p3,
+        a0,
+        a1,
+        a2,
+        a3,
+        s0,
+        s1,
+        s2,
+        s3,
+        e0,
+        e1,
+        e2,
+        e3,
+        u0,
+        u1,
+        u2,
+        u3,
+        in_unit as u8,
+        advisory,
+    ]
+}
+
 /// What is left of bytes behind what an image has before its programs, with these counts in place of
 /// those of the context.
 fn behind_head<'a>(
@@ -113,16 +174,8 @@ fn behind_head<'a>(
         }))
         (Some bytes.now) }
 {
-    let left = behind(Some(bytes), &MARK);
-    let left = behind(left, &context.termination.to_be_bytes());
-    let left = behind(left, &context.restarts.to_be_bytes());
-    let left = behind(left, &phase.to_be_bytes());
-    let left = behind(left, &attempt.to_be_bytes());
-    let left = behind(left, &shown.to_be_bytes());
-    let left = behind(left, &context.entries.to_be_bytes());
-    let left = behind(left, &units.to_be_bytes());
-    let left = behind(left, &[in_unit as u8]);
-    let left = behind(left, &[context.course.is_advisory() as u8]);
+    let numbers = numbers_of(context, phase, attempt, shown, units, in_unit);
+    let left = behind(Some(bytes), &numbers);
     behind(left, context.screen.cells())
 }
 

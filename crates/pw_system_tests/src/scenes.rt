@@ -24,13 +24,13 @@ use pw_world::task::run_task;
 use pw_world::world::World;
 use pw_world_model::answers::Applied;
 use pw_world_model::task::Task;
-use rounds::{Stop, build_image, go_round};
+use rounds::{Stop, build_image, go_round, work_on};
 use std::alloc::Global;
 use std::test::Fail;
 
-/// A new world of the deck HELLO.
-fn hello_world(alloc: Global) -> Result<World<Faulty<Tmf>>, Fail> {
-    let OpenedDeck { setup, disc } = open(alloc, decks::HELLO, &[])?;
+/// A new world of a deck.
+fn world_of(alloc: Global, bytes: &[u8]) -> Result<World<Faulty<Tmf>>, Fail> {
+    let OpenedDeck { setup, disc } = open(alloc, bytes, &[])?;
     let (system, script) = setup.into_parts();
     Ok(World::new(alloc, system, script, disc, MAX_ENTRIES)?)
 }
@@ -38,7 +38,7 @@ fn hello_world(alloc: Global) -> Result<World<Faulty<Tmf>>, Fail> {
 /// A program that stands at an answer has to run on first.
 #[test]
 fn unrun_outcome(rt: HostRuntime) -> Result<(), Fail> {
-    let mut world = hello_world(rt.alloc())?;
+    let mut world = world_of(rt.alloc(), decks::HELLO)?;
     let terminals = world.system().terminals.len();
     if terminals == 0 {
         world.into_disc();
@@ -78,7 +78,7 @@ fn are_lines_read(alloc: Global, system: &System) -> bool
 /// An image is built outside the world, between two rounds.
 #[test]
 fn unbuilt_until_given_back(rt: HostRuntime) -> Result<(), Fail> {
-    let mut world = hello_world(rt.alloc())?;
+    let mut world = world_of(rt.alloc(), decks::HELLO)?;
     assert!(rt; are_lines_read(rt.alloc(), world.system()));
     for _ in 0..2 {
         let stop = go_round(&mut world);
@@ -89,5 +89,22 @@ fn unbuilt_until_given_back(rt: HostRuntime) -> Result<(), Fail> {
     assert_eq!(rt; go_round(&mut world), Stop::Finished);
     let text = report_of(rt.alloc(), world)?;
     assert_eq!(rt; text.as_slice(), reports::HELLO);
+    Ok(())
+}
+
+/// A world that is worked in one call a step has the report of one whose tasks are handed out.
+#[test]
+fn worked_at_once(rt: HostRuntime) -> Result<(), Fail> {
+    let stocks = decks::stocks(rt.alloc(), b"", decks::OPEN_UNIT)?;
+    let scenes = [
+        (decks::HELLO, reports::HELLO),
+        (stocks.as_slice(), reports::OPEN_UNIT),
+    ];
+    for (deck, report) in scenes {
+        let mut world = world_of(rt.alloc(), deck)?;
+        assert_eq!(rt; work_on(rt.alloc(), &mut world), Stop::Finished);
+        let text = report_of(rt.alloc(), world)?;
+        assert_eq!(rt; text.as_slice(), report);
+    }
     Ok(())
 }

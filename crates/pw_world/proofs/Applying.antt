@@ -128,7 +128,7 @@ module _ (members : ℕ → List ℕ) (world : Seen) (outcome : Outcome) where
   comes-so applied.Unrun new passes step = absurd step
 
   -- without work nothing has run on
-  ran-nothing : work_of world who ≡ None → ran world outcome ≡ world
+  pub ran-nothing : work_of world who ≡ None → ran world outcome ≡ world
   ran-nothing none = ap (λ o. record world { kept = ran_from o outcome world.kept }) none
 
   advances-none : (answer : Applied) (new : Seen) → work_of world who ≡ None → Steps answer new

@@ -50,7 +50,7 @@ built-seen told w k p t changed =
     ap (λ (s : System). record (seen told w) { system = s; kept = kept_in told k }) changed.system
     ∙ ap (λ (kept : Kept). record (seen told w) { kept = kept }) changed.kept
 
-built-monitor : {D : Type 0} (told : D → Told) (w : WorldState D) (k : KeepState D) (p t : ℕ)
+pub built-monitor : {D : Type 0} (told : D → Told) (w : WorldState D) (k : KeepState D) (p t : ℕ)
     → IsChanged told (at_pair p (changed_at t built)) w.keep k → IsMonitor told w → IsMonitor told (record w { keep = k })
 built-monitor told w k p t changed m =
     subst (λ (world : Seen). IsWorld world (books_of w.ledger)) (sym (built-seen told w k p t changed))

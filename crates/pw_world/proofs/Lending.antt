@@ -1,11 +1,15 @@
 -- The first seat of a pair whose message waits is the one of its terminal, since no terminal has two.
-use Rattle.std.proofs.Common.{◌≡◌, ◌==◌, ℕ, Bool, true, false, List, [], ◌∷◌, Some, eq-eqb, map, refl, subst, inl, inr}
+use Rattle.std.proofs.Common.{◌≡◌, ◌∙◌, ◌==◌, ℕ, Bool, true, false, List, [], ◌∷◌, Option, Some, None, eq-eqb, map, refl, subst, sym, inl, inr}
 use Rattle.std.proofs.lemmas.Bool.{cases_Bool}
 use Rattle.std.specs.List.{AllByRecursion, IsDistinct}
+use Rattle.std.specs.Option.{option_map}
 use Rattle.std.specs.Prelude.{find}
 use Rattle.pw_base.proofs.Plain.{some_is}
-use Rattle.pw_pair.specs.Seats.{is_seat_of, is_waiting}
+use Rattle.pw_pair.specs.SeenTask.{SeenTask}
+use Rattle.pw_pair.specs.Seats.{flies_waiting, is_seat_of, is_waiting, start_of}
+use Rattle.pw_pair.specs.Tasks.{task_at, task_in}
 use Rattle.pw_pair.specs.declared.seat.BackupSeat.{BackupSeat}
+use Rattle.pw_pair.specs.declared.seat.Flight.{Flight}
 
 abbrev terminals : List BackupSeat → List ℕ
 terminals seats = map (λ (seat : BackupSeat). seat.terminal) seats
@@ -49,3 +53,31 @@ own-seat test (x ∷ xs) seat distinct found =
           let rest = own-seat test xs seat distinct.1 later in
           rw other rest
     ]
+
+-- ---- the task of a message that waits
+
+waits-task : (terminal : ℕ) (held : Option (List ℕ)) (flight : Option Flight) → flies_waiting flight ≡ true
+    → (task : SeenTask) × ((task_in terminal held flight ≡ Some task) × (task.terminal ≡ terminal))
+waits-task terminal held None waits = absurd (cc waits)
+waits-task terminal held (Some flight) waits =
+    let task : SeenTask = record { terminal = terminal; message = flight.message; held = held } in
+    elim (cases_Bool flight.built) [
+      | inl built ↦ let clash : false ≡ true = rw built at waits in absurd (cc clash)
+      | inr unbuilt ↦
+          let here : task_in terminal held (Some flight) ≡ Some task = rw unbuilt refl in
+          (task, (here, refl))
+    ]
+
+of-found : (found : Option BackupSeat) (t : ℕ) → ((seat : BackupSeat) → found ≡ Some seat → is_waiting seat ≡ true)
+    → Some t ≡ option_map (λ (seat : BackupSeat). seat.terminal) found
+    → (task : SeenTask) × ((task_at found ≡ Some task) × (task.terminal ≡ t))
+of-found None t waiting e = absurd (cc e)
+of-found (Some seat) t waiting e =
+    let it = waits-task seat.terminal (start_of seat.memory) seat.flight (waiting seat refl) in
+    (it.0, (it.1.0, it.1.1 ∙ sym (some_is e)))
+
+-- the first seat whose message waits has a task, which is of its terminal
+pub first-task : (seats : List BackupSeat) (t : ℕ)
+    → Some t ≡ option_map (λ (seat : BackupSeat). seat.terminal) (find is_waiting seats)
+    → (task : SeenTask) × ((task_at (find is_waiting seats) ≡ Some task) × (task.terminal ≡ t))
+first-task seats t e = of-found (find is_waiting seats) t (λ seat found. waits seats seat found) e

@@ -25,3 +25,4 @@ mod Starting
 mod Testing
 mod Touching
 mod Workers
+mod Working

@@ -5,7 +5,7 @@ use Rattle.pw_class.specs.Queue.{Queue, at_process}
 use Rattle.pw_code.specs.declared.context.Context.{Context}
 use Rattle.pw_code.specs.declared.system.System.{System}
 use Rattle.pw_world_store.specs.Keeps.{IsChanged, KeepState, kept_in}
-use Rattle.pw_world_state.specs.Kept.{Kept}
+use Rattle.pw_world_state.specs.Kept.{Kept, KeptTerminal}
 use Rattle.pw_world.proofs.Noting.{marks_of}
 use Rattle.pw_world.proofs.RanTo.{has-program}
 use Rattle.pw_world.specs.Ledgers.{books_of}
@@ -13,7 +13,11 @@ use Rattle.pw_world.specs.PutBack.{RanFrom, faulted_as, put_back, ran_back}
 use Rattle.pw_world.specs.Running.{HasProgram, ran_to}
 use Rattle.pw_world.specs.States.{IsMonitor, WorldState, seen}
 use Rattle.pw_world_model.proofs.SameWork.{faulted-stands}
-use Rattle.pw_world_model.proofs.Outcomes.{process-back, terminal-back}
+use Rattle.pw_onecopy.proofs.Update.{upd-same}
+use Rattle.pw_onecopy.specs.Update.{upd}
+use Rattle.pw_world_model.proofs.Outcomes.{process-back, terminal-back, terminal-work}
+use Rattle.pw_world_state.specs.Changes.{at_terminal, with_ready}
+use Rattle.pw_world_store.specs.Calls.{before_verb}
 use Rattle.pw_world_model.specs.Actors.{IsActor}
 use Rattle.pw_world_model.specs.Answers.{FailsOnly, run_on}
 use Rattle.pw_world_model.specs.Pushed.{AreMarked}
@@ -210,3 +214,27 @@ back-monitor told w k before a given m of ran marked changed =
     subst (λ (world : Seen). IsWorld world (books_of w.ledger)) (sym (back-seen told w k a given changed))
     (back-world before (seen told w) a given ran (books_of w.ledger) (marks_of (notes_in w.ledger.notes)) of m
     (λ other known may. marked other known))
+
+-- ---- a terminal stands at its last answer again
+
+left-is : (kept : Kept) (t : ℕ) (given : Context) → (kept.terminals t).context ≡ Some given
+    → at_terminal t before_verb kept ≡ put_back (actor.Terminal t) given kept
+left-is kept t given is =
+    ap (λ c. record kept { terminals = upd kept.terminals t (record (kept.terminals t) { context = c; ready = None }) }) is
+
+-- a terminal that has run on keeps the context from which it ran
+keeps-given : (before now : Seen) (t : ℕ) (given : Context) → IsActor before.system (actor.Terminal t)
+    → RanFrom before now (actor.Terminal t) given → (now.kept.terminals t).context ≡ Some given
+keeps-given before now t given of ran =
+    ap (λ (w : Seen). (w.kept.terminals t).context) ran.is
+    ∙ ap (λ (own : KeptTerminal). own.context) (upd-same before.kept.terminals t (with_ready ran.work (before.kept.terminals t)) t refl)
+    ∙ (terminal-work before ran.books ran.world t given of ran.was).0
+
+pub left-changed : {D : Type 0} (told : D → Told) (w : WorldState D) (k : KeepState D) (before : Seen) (t : ℕ) (given : Context)
+    → IsActor w.keep.system (actor.Terminal t) → RanFrom before (seen told w) (actor.Terminal t) given
+    → IsChanged told (at_terminal t before_verb) w.keep k → IsChanged told (put_back (actor.Terminal t) given) w.keep k
+left-changed told w k before t given of ran changed = record {
+  system = changed.system;
+  kept = changed.kept ∙ left-is (kept_in told w.keep) t given
+      (keeps-given before (seen told w) t given (actor-there before (seen told w) (actor.Terminal t) given ran of) ran);
+}

@@ -12,3 +12,4 @@ pub mod Running
 pub mod States
 pub mod Touched
 pub mod Undue
+pub mod Working

@@ -37,6 +37,11 @@ pub record RanFrom (before now : Seen) (actor : Actor) (given : Context) : Type 
   pub work : Context
   pub is : now ≡ faulted_as now (ran_to actor work before)
 
+-- a copy of the context from which an actor runs on, but for a terminal, which keeps that itself
+abbrev pub IsSpare : Actor → Context → Option Context → Type 0
+IsSpare (Terminal t) given spare = spare ≡ None
+IsSpare actor given spare = spare ≡ Some given
+
 -- the answer leaves the kept context of its actor as it was
 abbrev pub leaves_work : Applied → Bool
 leaves_work applied.Unbuilt = true

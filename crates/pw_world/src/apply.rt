@@ -3,6 +3,7 @@
 ghost use Rattle.std.specs.Prelude.{◌≡◌, None, false, true};
 ghost use Rattle.std.specs.Option.{ForSome};
 ghost use Rattle.pw_world.specs.Applying.{Advances, StepsTo};
+ghost use Rattle.pw_world.specs.Found.{IsFound};
 ghost use Rattle.pw_world.specs.Judging.{PassesJudging};
 ghost use Rattle.pw_world.specs.PutBack.{RanFrom, leaves_work, put_back_for};
 ghost use Rattle.pw_world.specs.States.{seen};
@@ -11,10 +12,12 @@ ghost use Rattle.pw_world_state.specs.Members.{members_of};
 ghost use Rattle.pw_world_model.specs.Answers.{AnswersApply, IsFull, LeavesApplied, ran, with_out};
 ghost use Rattle.pw_world_model.specs.Seen.{Seen, work_of};
 ghost use Rattle.pw_actor_queue.specs.Places.{is_placed};
+ghost use Rattle.pw_actor_queue.specs.declared.actor.Actor.{Actor as SeenActor};
 
 use crate::world::World;
 use pw_actor_queue::actor::Actor;
 use pw_code::context::Context;
+use pw_event::event::Event;
 use pw_tmf::answer::DiscFault;
 use pw_tmf::disc::Disc;
 use pw_world_model::answers::Applied;
@@ -96,7 +99,7 @@ impl<D: Disc> World<D> {
 
     /// The actor's context stands at its last answer again, where it has run on and the answer leaves
     /// it as it was.
-    fn run_back_for(&mut self, answer: Applied, actor: Actor, given: Option<Context>)
+    pub(crate) fn run_back_for(&mut self, answer: Applied, actor: Actor, given: Option<Context>)
         requires actor { IsActor self.old.keep.system actor }
         requires ran { leaves_work answer ≡ true → ForSome given
             (λ context. (before : Seen) × RanFrom before (seen D.told self.old) actor context) }
@@ -111,7 +114,7 @@ impl<D: Disc> World<D> {
     }
 
     /// Makes a step of an actor that has been read.
-    fn make_step(&mut self, actor: Actor) -> Applied
+    pub(crate) fn make_step(&mut self, actor: Actor) -> Applied
         requires actor { IsActor self.old.keep.system actor }
         requires sound { self.old.failed ≡ false }
         requires room { ¬ IsFull (seen D.told self.old) }
@@ -128,11 +131,24 @@ impl<D: Disc> World<D> {
             Ok(None) => return Applied::Held,
             Err(_) => return Applied::Memory,
         };
-        if self.is_unbuilt(&entry) {
+        self.enter_step(&entry)
+    }
+
+    /// Enters an entry that was found for an actor, unless it is an APPLIED whose message is not built.
+    pub(crate) fn enter_step(&mut self, entry: &Event) -> Applied
+        requires sound { self.old.failed ≡ false }
+        requires room { ¬ IsFull (seen D.told self.old) }
+        requires found { (actor : SeenActor) × IsFound (seen D.told self.old) actor entry.now }
+        ensures { (actor : SeenActor) → IsFound (seen D.told self.old) actor entry.now
+            → StepsTo (members_of self.old.keep.system) (seen D.told self.old) actor result
+            (seen D.told self.new) }
+    {
+        self.holds();
+        if self.is_unbuilt(entry) {
             return Applied::Unbuilt;
         }
-        self.know_entry(&entry);
-        match self.push(&entry) {
+        self.know_entry(entry);
+        match self.push(entry) {
             Ok(()) => Applied::Done,
             Err(DiscFault::Failed) => Applied::DiscFault,
             Err(DiscFault::Memory) => Applied::Memory,
@@ -141,7 +157,7 @@ impl<D: Disc> World<D> {
 }
 
 /// Whether an answer leaves the kept context of its actor as it was.
-fn leaves_work(answer: Applied) -> bool
+pub(crate) fn leaves_work(answer: Applied) -> bool
     ensures { result ≡ leaves_work answer }
 {
     matches!(

@@ -47,7 +47,7 @@ impl<D: Disc> World<D> {
 
     /// An actor that is looked at for work and not out, None only where each actor that may work is
     /// out.
-    fn next(&mut self) -> Option<Actor>
+    pub(crate) fn next(&mut self) -> Option<Actor>
         requires { finished (seen D.told self.old) ≡ false }
         ensures next { IsNextOf (seen D.told self.old) self.old.ledger.notes result }
         ensures same { self.new ≡ self.old }
@@ -90,7 +90,7 @@ impl<D: Disc> World<D> {
     }
 
     /// An actor that may not work is looked at no more.
-    fn unmark(&mut self, actor: Actor)
+    pub(crate) fn unmark(&mut self, actor: Actor)
         requires placed { is_placed actor ≡ true }
         requires idle { IsActor self.old.keep.system actor → ¬ MayWork (seen D.told self.old) actor }
         ensures seen { seen D.told self.new ≡ seen D.told self.old }

@@ -27,4 +27,5 @@ mod stamping;
 pub mod task;
 mod touched;
 mod values;
+pub mod work;
 pub mod world;

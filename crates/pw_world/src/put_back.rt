@@ -2,11 +2,12 @@
 
 ghost use Rattle.std.specs.Prelude.{◌≡◌, false};
 ghost use Rattle.pw_world_store.specs.Keeps.{IsChanged, kept_in};
-ghost use Rattle.pw_world.specs.PutBack.{RanFrom, put_back, ran_back};
+ghost use Rattle.pw_world.specs.PutBack.{IsSpare, RanFrom, put_back, ran_back};
 ghost use Rattle.pw_world.specs.Running.{HasProgram};
 ghost use Rattle.pw_world.specs.States.{seen};
 ghost use Rattle.pw_world_model.specs.Actors.{IsActor};
 ghost use Rattle.pw_world_model.specs.Seen.{Seen};
+ghost use Rattle.pw_actor_queue.specs.declared.actor.Actor.TheVariants as actor;
 
 use crate::world::World;
 use pw_actor_queue::actor::Actor;
@@ -23,6 +24,35 @@ impl<D: Disc> World<D> {
     {
         self.ledger.mark_all();
         put_back(&mut self.keep, actor, given);
+    }
+
+    /// The kept context of an actor, which has run on in its place, is the one from which it ran again: a terminal keeps that
+    /// itself, and of any other a copy is spare.
+    pub(crate) fn go_back(&mut self, actor: Actor, spare: Option<Context>)
+        requires actor { IsActor self.old.keep.system actor }
+        requires ran { (given : Context) × (((before : Seen) × RanFrom before (seen D.told self.old) actor given)
+            × IsSpare actor given spare) }
+        ensures { (given : Context) → ((before : Seen) × RanFrom before (seen D.told self.old) actor given)
+            → IsSpare actor given spare → seen D.told self.new ≡ ran_back actor given (seen D.told self.old) }
+    {
+        match spare {
+            Some(given) => self.run_back(actor, given),
+            None => match actor {
+                Actor::Terminal(terminal) => self.leave_verb(terminal),
+                _ => unreachable!(),
+            },
+        }
+    }
+
+    /// The program of a terminal, which has run on, stands at its last answer again.
+    fn leave_verb(&mut self, terminal: u32)
+        requires actor { IsActor self.old.keep.system (actor.Terminal terminal) }
+        requires ran { (given : Context) × ((before : Seen) × RanFrom before (seen D.told self.old) (actor.Terminal terminal) given) }
+        ensures { (given : Context) → ((before : Seen) × RanFrom before (seen D.told self.old) (actor.Terminal terminal) given)
+            → seen D.told self.new ≡ ran_back (actor.Terminal terminal) given (seen D.told self.old) }
+    {
+        self.ledger.mark_all();
+        let _left = self.keep.leave_verb(terminal);
     }
 }
 

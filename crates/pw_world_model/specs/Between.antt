@@ -54,7 +54,7 @@ pub record IsEnter (world new : Seen) : Type 0 where
   pub leaves : LeavesEntered world entry answer new
   pub works : KeepsWork world new
 
--- one call that changes a world; the others change none
+-- one call that changes a world; `work` is an `apply` of the outcome that it made itself, and the others change none
 abbrev pub IsWorldCall : Seen → Seen → Type 0
 IsWorldCall world new = IsClaim world new ⊎ (IsApply world new ⊎ (IsGiveBack world new ⊎ IsEnter world new))
 

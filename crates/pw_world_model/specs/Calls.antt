@@ -1,5 +1,5 @@
--- What the other calls of a world answer: `lend`, `give_back` and `replay`.
-use Rattle.std.specs.Prelude.{◌≡◌, ◌-◌, ◌↔◌, ℕ, ◌≤◌, Bool, true, false, IsTrue, List, find, length, take, Option, Some, slice_get}
+-- What the other calls of a world answer: `lend`, `give_back`, `build_first` and `replay`.
+use Rattle.std.specs.Prelude.{◌≡◌, ◌-◌, ◌↔◌, ℕ, ◌≤◌, Bool, true, false, IsTrue, List, find, length, take, Option, Some, None, slice_get}
 use Rattle.pw_code.specs.Limits.{most_log_lines}
 use Rattle.pw_code.specs.declared.system.System.{System}
 use Rattle.pw_event.specs.declared.event.Event.{Event}
@@ -33,6 +33,15 @@ pub record GivesBack (world : Seen) (done : SeenDone) (filed : Bool) (new : Seen
     kept = at_pair (tcp_of world.system done.task.terminal) (changed_at done.task.terminal built) world.kept;
   }
   pub late : filed ≡ false → new ≡ world
+
+-- ---- build_first
+
+-- the image of the pair's first terminal whose message in flight is not built was built, if there is one: lent, built and
+-- given back in one call; nothing else changes
+abbrev pub BuildsHere : Seen → ℕ → Bool → Seen → Type 0
+BuildsHere world p true new = (task : SeenTask) × ((lent (world.kept.pairs p) ≡ Some task)
+    × (new ≡ record world { kept = at_pair p (changed_at task.terminal built) world.kept }))
+BuildsHere world p false new = (lent (world.kept.pairs p) ≡ None) × (new ≡ world)
 
 -- ---- replay
 

@@ -13,4 +13,5 @@ pub mod Stamps
 pub mod Tasks
 pub mod Touches
 pub mod Touching
+pub mod Working
 pub mod Worlds

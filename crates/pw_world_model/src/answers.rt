@@ -33,6 +33,23 @@ pub enum Applied {
     Memory,
 }
 
+/// What `work` answers.
+#[derive(Clone, Copy, Debug, PartialEq, Eq)]
+pub enum Worked {
+    /// A task was claimed, run on and applied, with this answer.
+    Applied(Applied),
+    /// Every actor that may work is out, and there is one.
+    Idle,
+    /// The log is finished.
+    Finished,
+    /// The log has as many entries as it may, and is not finished.
+    Limit,
+    /// The disc has failed in a call of this world.
+    DiscFault,
+    /// There is no memory to look for a task or to run it on.
+    Memory,
+}
+
 /// What `enter` answers.
 #[derive(Clone, Copy, Debug, PartialEq, Eq)]
 pub enum Entered {

@@ -5,7 +5,7 @@ use pw_pair::link::build;
 use pw_tmf::disc::Disc;
 use pw_world::task::run_task;
 use pw_world::world::World;
-use pw_world_model::answers::{Applied, Claim};
+use pw_world_model::answers::{Applied, Claim, Worked};
 use std::alloc::Global;
 
 /// How many rounds a scene may take.
@@ -62,6 +62,23 @@ pub fn go_round<D: Disc>(world: &mut World<D>) -> Stop {
     for _ in 0..ROUNDS {
         if let Err(stop) = round(world) {
             return stop;
+        }
+    }
+    Stop::Rounds
+}
+
+/// Works until something stops that, and builds an image where one is waited for.
+pub fn work_on<D: Disc>(alloc: Global, world: &mut World<D>) -> Stop {
+    for _ in 0..ROUNDS {
+        match world.work() {
+            Worked::Applied(Applied::Done | Applied::Held) => {}
+            Worked::Applied(Applied::Unbuilt) if build_image(alloc, world) => {}
+            Worked::Applied(answer) => return Stop::Answered(answer),
+            Worked::Idle => return Stop::Idle,
+            Worked::Finished => return Stop::Finished,
+            Worked::Limit => return Stop::Answered(Applied::Limit),
+            Worked::DiscFault => return Stop::Answered(Applied::DiscFault),
+            Worked::Memory => return Stop::Memory,
         }
     }
     Stop::Rounds
