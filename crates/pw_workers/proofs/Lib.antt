@@ -1,4 +1,5 @@
 mod Asked
 mod Claimed
 mod Crossing
+mod Same
 mod Taken

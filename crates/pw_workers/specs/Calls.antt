@@ -12,6 +12,10 @@ pub record IsCallWorth (calls : WorkerCalls) : Type 0 where
   pub closed : calls.is_open ≡ false
   pub large : 2_000 ≤ calls.size
 
+-- tasks are small: to hand the lock on costs more than to run one
+abbrev pub AreTasksSmall : WorkerCalls → Type 0
+AreTasksSmall calls = calls.size < 200
+
 -- a task of so many statements was run: a large one counts at once, and is forgotten bit by bit
 abbrev pub ran : ℕ → WorkerCalls → WorkerCalls
 ran statements calls = record calls { size = max statements (calls.size - calls.size / 64) }

@@ -3,6 +3,7 @@ pub mod Calls
 pub mod Claims
 pub mod Endings
 pub mod Ends
+pub mod InPlace
 pub mod Lanes
 pub mod Locked
 pub mod Over

@@ -1,10 +1,13 @@
 //! When a worker that waits is called.
 
 ghost use Rattle.std.specs.Prelude.{◌≡◌, ◌↔◌, IsTrue};
-ghost use Rattle.pw_workers.specs.Calls.{IsCallWorth, called, come, no_calls, ran, waited};
+ghost use Rattle.pw_workers.specs.Calls.{AreTasksSmall, IsCallWorth, called, come, no_calls, ran, waited};
 
 /// A task of so many statements takes longer than to wake a worker and to claim another task for it.
 const WORTH: u32 = 2_000;
+
+/// A task of fewer statements takes less than to hand the lock on.
+const SMALL: u32 = 200;
 
 /// What tasks are taken for before one was run, so that at first all are called.
 const FIRST: u32 = 1_000_000;
@@ -61,6 +64,13 @@ impl WorkerCalls {
         ensures { IsTrue result ↔ IsCallWorth self.now }
     {
         self.waiting > 0 && !self.is_open && self.size >= WORTH
+    }
+
+    /// Whether tasks are so small that to hand the lock on costs more than to run one.
+    pub fn are_tasks_small(&self) -> bool
+        ensures { IsTrue result ↔ AreTasksSmall self.now }
+    {
+        self.size < SMALL
     }
 
     /// One of those that wait is called.

@@ -12,6 +12,11 @@ pub struct Step {
 pub trait Gate: Sync {
     /// Returns once the worker may go on.
     fn pass(&self, step: Step);
+
+    /// Whether no worker is ever held there, so that one that works in place need not pass it.
+    fn is_open(&self) -> bool {
+        false
+    }
 }
 
 /// A gate that is always open.
@@ -20,4 +25,8 @@ pub struct NoGate;
 
 impl Gate for NoGate {
     fn pass(&self, _step: Step) {}
+
+    fn is_open(&self) -> bool {
+        true
+    }
 }

@@ -1,5 +1,5 @@
-//! Workers over one locked world, each of which claims a task, runs it outside the lock and applies what came of it, and how their
-//! run ends.
+//! Workers over one locked world, each of which claims a task, runs it outside the lock and applies what came of it, or does all
+//! that in place, and how their run ends.
 //! docs/WORKERS.md has the rules.
 #![tactic(auto)]
 
@@ -8,6 +8,7 @@ mod calls;
 pub mod end;
 pub mod ending;
 pub mod gate;
+mod in_place;
 mod lane;
 pub mod over;
 mod parts;

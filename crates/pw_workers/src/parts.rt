@@ -6,11 +6,12 @@ ghost use Rattle.pw_world.specs.States.{seen};
 ghost use Rattle.pw_world_model.specs.Actors.{IsActor};
 ghost use Rattle.pw_world_model.specs.Answers.{AnswersApply, Claims, HasFailed, LeavesApplied};
 ghost use Rattle.pw_world_model.specs.Calls.{GivesBack};
+ghost use Rattle.pw_world_model.specs.Working.{Works};
 ghost use Rattle.pw_world_model.specs.declared.answers.Claim.TheVariants as claim;
 ghost use Rattle.pw_world_model.specs.declared.task.Task.{Task as SeenTask};
 ghost use Rattle.pw_world_state.specs.Members.{members_of};
 ghost use Rattle.pw_workers.specs.Applies.{IsLent};
-ghost use Rattle.pw_workers.specs.Calls.{IsCallWorth, called, come, ran, waited};
+ghost use Rattle.pw_workers.specs.Calls.{AreTasksSmall, IsCallWorth, called, come, ran, waited};
 ghost use Rattle.pw_workers.specs.Claims.{EndsRun};
 ghost use Rattle.pw_workers.specs.Places.{IsTakenFirst, waits_at};
 ghost use Rattle.pw_workers.specs.Turns.{CanBuild, CanRun};
@@ -22,7 +23,7 @@ use crate::shared::{Naming, Shared};
 use pw_base::memory::Memory;
 use pw_pair::link::LinkDone;
 use pw_tmf::disc::Disc;
-use pw_world_model::answers::{Applied, Claim};
+use pw_world_model::answers::{Applied, Claim, Worked};
 use pw_world_model::task::{Outcome, Task};
 use std::mem;
 use std::sync::Wait;
@@ -74,6 +75,19 @@ impl<D: Disc, N: Naming> Shared<D, N> {
         ensures rest { self.new ≡ record self.old { world = self.new.world } }
     {
         self.world.apply(outcome)
+    }
+
+    /// What the world answers that works, where the run goes on.
+    pub fn worked(&mut self) -> Worked
+        requires { self.old.end ≡ None }
+        ensures works { Works (members_of self.old.world.keep.system) (seen D.told self.old.world) result
+            (seen D.told self.new.world) }
+        ensures failed { result ≡ Worked.DiscFault → HasFailed (seen D.told self.new.world) }
+        ensures fault { result ≡ Worked.Applied Applied.DiscFault → HasFailed (seen D.told self.new.world) }
+        ensures rest { self.new ≡ record self.old { world = self.new.world } }
+    {
+        self.world.holds();
+        self.world.work()
     }
 
     /// Files an image that was built, where the run goes on.
@@ -153,6 +167,13 @@ impl<D: Disc, N: Naming> Shared<D, N> {
         ensures { IsTrue result ↔ IsCallWorth self.now.calls }
     {
         self.calls.is_worth()
+    }
+
+    /// Whether tasks are so small that to hand the lock on costs more than to run one.
+    pub fn are_tasks_small(&self) -> bool
+        ensures { IsTrue result ↔ AreTasksSmall self.now.calls }
+    {
+        self.calls.are_tasks_small()
     }
 
     /// A worker is called.

@@ -255,7 +255,7 @@ impl<D: Disc, N: Naming> Shared<D, N> {
     }
 
     /// Goes on behind an answer of the world.
-    fn go_on_behind<R: Wait>(&mut self, rt: &R, answer: Applied)
+    pub(crate) fn go_on_behind<R: Wait>(&mut self, rt: &R, answer: Applied)
         requires goes_on { self.old.end ≡ None }
         requires failed { answer ≡ Applied.DiscFault → HasFailed (seen D.told self.old.world) }
         ensures { GoesOnBehind D.told answer self.old self.new }

@@ -1,6 +1,6 @@
 //! The workers of a run.
 
-ghost use Rattle.std.specs.Prelude.{◌≡◌, ◌≤◌, All, IfOk, length};
+ghost use Rattle.std.specs.Prelude.{◌≡◌, ◌≤◌, All, IfOk, None, length};
 ghost use Rattle.std.specs.Thread.{IsSend, IsSync};
 ghost use Rattle.pw_code.specs.Valid.{IsValid};
 ghost use Rattle.pw_world.specs.States.{seen};
@@ -80,8 +80,16 @@ impl<D: Disc, N: Naming> RunLock<D, N> {
         turn
     }
 
-    /// Runs a task outside the lock, passes the gate and applies what came of it.
-    fn run<G: Gate, R: Wait>(&self, rt: &R, system: &System, gate: &G, task: Task) -> WorkerTurn
+    /// Runs a task outside the lock, passes the gate and applies what came of it. Where tasks are small and no gate may hold
+    /// the worker, it goes on under the lock for a while.
+    fn run<G: Gate, R: Wait>(
+        &self,
+        rt: &R,
+        alloc: Global,
+        system: &System,
+        gate: &G,
+        task: Task,
+    ) -> WorkerTurn
         requires system { system.now ≡ N.system }
         requires valid { IsValid N.system }
         requires can { CanRun N.system task }
@@ -98,6 +106,9 @@ impl<D: Disc, N: Naming> RunLock<D, N> {
                 let mut shared = self.shared.lock(rt);
                 shared.ran(statements);
                 shared.apply(rt, outcome);
+                if gate.is_open() {
+                    shared.go_on_small(rt, alloc);
+                }
                 self.leave(rt, shared)
             }
             Err(Memory) => self.end_for_memory(rt),
@@ -144,7 +155,7 @@ fn one<D: Disc, N: Naming, G: Gate, R: Wait>(
     for _ in rt.forever() {
         turn = match turn {
             WorkerTurn::Build { tcp, lane } => lock.build(rt, alloc, tcp, lane),
-            WorkerTurn::Run(task) => lock.run(rt, system, gate, task),
+            WorkerTurn::Run(task) => lock.run(rt, alloc, system, gate, task),
             WorkerTurn::Wait => lock.next(rt),
             WorkerTurn::Stop => return,
         };
@@ -184,7 +195,8 @@ fn start<D: Disc, N: Naming, G: Gate, R: Threads + Wait + Sync>(
     );
 }
 
-/// Runs workers over what is behind a lock until the run has ended.
+/// Runs workers over what is behind a lock until the run has ended. A worker that is alone takes no lock, where no gate may
+/// hold it.
 fn until_end<D: Disc, N: Naming, G: Gate, R: Threads + Wait + Sync>(
     rt: &R,
     alloc: Global,
@@ -195,20 +207,24 @@ fn until_end<D: Disc, N: Naming, G: Gate, R: Threads + Wait + Sync>(
 ) -> (World<D>, RunEnd)
     requires system { system.now ≡ N.system }
     requires valid { IsValid N.system }
+    requires goes_on { first.end ≡ None }
     ensures same { IsFor N.system N.script N.log N.limit N.faults (seen D.told result.0) }
     ensures ends { EndsSo result.1 (seen D.told result.0) }
 {
     let mut shared = first;
+    if count == 1 && gate.is_open() {
+        shared.go_on_alone(rt, alloc);
+    }
     for _ in rt.forever() {
+        if let Some(end) = shared.end {
+            return (shared.world, end);
+        }
         let lock = RunLock {
             shared: Mutex::new(shared),
             more: Condvar::new(),
         };
         start(rt, alloc, &lock, system, count, gate);
         shared = lock.shared.into_inner();
-        if let Some(end) = shared.end {
-            return (shared.world, end);
-        }
     }
     unreachable!()
 }
@@ -259,7 +275,7 @@ fn run_named<D: Disc, N: Naming, G: Gate, R: Threads + Wait + Sync>(
 
 /// Runs a world with so many workers until its log is finished or full, its disc has failed or memory
 /// runs out (docs/WORKERS.md), and gives it back with the cause. Each entry of its log is made under
-/// the one lock; programs run and images are built outside it. It may wait for a thread.
+/// the one lock, or by a worker that is alone. It may wait for a thread.
 pub fn run_workers<D: Disc, G: Gate, R: Threads + Wait + Sync>(
     rt: &R,
     alloc: Global,
