@@ -10,11 +10,11 @@ no_calls = record { waiting = 0; is_open = false; size = 1_000_000 }
 pub record IsCallWorth (calls : WorkerCalls) : Type 0 where
   pub one : 0 < calls.waiting
   pub closed : calls.is_open ≡ false
-  pub large : 2_000 ≤ calls.size
+  pub large : 4_000 ≤ calls.size
 
 -- tasks are small: to hand the lock on costs more than to run one
 abbrev pub AreTasksSmall : WorkerCalls → Type 0
-AreTasksSmall calls = calls.size < 200
+AreTasksSmall calls = calls.size < 1_000
 
 -- a task of so many statements was run: a large one counts at once, and is forgotten bit by bit
 abbrev pub ran : ℕ → WorkerCalls → WorkerCalls

@@ -4,10 +4,10 @@ ghost use Rattle.std.specs.Prelude.{◌≡◌, ◌↔◌, IsTrue};
 ghost use Rattle.pw_workers.specs.Calls.{AreTasksSmall, IsCallWorth, called, come, no_calls, ran, waited};
 
 /// A task of so many statements takes longer than to wake a worker and to claim another task for it.
-const WORTH: u32 = 2_000;
+const WORTH: u32 = 4_000;
 
 /// A task of fewer statements takes less than to hand the lock on.
-const SMALL: u32 = 200;
+const SMALL: u32 = 1_000;
 
 /// What tasks are taken for before one was run, so that at first all are called.
 const FIRST: u32 = 1_000_000;
