@@ -23,7 +23,7 @@ use pw_status::status::{Counted, status};
 use std::alloc::Global;
 use std::mem::forget;
 
-/// What is asked of a deck that is not run (docs/COMMANDS.md).
+/// What is asked of a deck that is not run (docs/guide/COMMANDS.md).
 #[derive(Clone, Copy, Debug, PartialEq, Eq)]
 pub enum DeckCommand {
     /// Whether it has a fault.
@@ -34,7 +34,7 @@ pub enum DeckCommand {
     Status { at: u32 },
 }
 
-/// Reads the source, and answers what is asked of its deck (docs/COMMANDS.md): the status and its text,
+/// Reads the source, and answers what is asked of its deck (docs/guide/COMMANDS.md): the status and its text,
 /// or the status of a call that has none.
 pub fn deck_output<S: Source>(
     alloc: Global,

@@ -16,7 +16,7 @@ use std::alloc::Global;
 
 /// The program as far as it waits for no thread: it says whether a deck of the source has a fault, replays its
 /// log, or counts its first entries; or it writes the generated deck; or it reads a schedule, and writes its
-/// messages and marks (docs/COMMANDS.md). It answers the exit status.
+/// messages and marks (docs/guide/COMMANDS.md). It answers the exit status.
 ///
 /// The clauses are those of `pathway`, where the words of the other commands say nothing.
 pub fn desk<S: Source, K: Sink>(alloc: Global, words: &[String], source: &mut S, sink: &mut K) -> u8

@@ -26,7 +26,7 @@ use std::alloc::Global;
 use std::sync::Wait;
 use std::thread::Threads;
 
-/// How a deck is run, for at most so many entries (docs/COMMANDS.md).
+/// How a deck is run, for at most so many entries (docs/guide/COMMANDS.md).
 #[derive(Clone, Copy, Debug, PartialEq, Eq)]
 pub enum RunCommand {
     /// Over a disc that does not fail.
@@ -37,7 +37,7 @@ pub enum RunCommand {
     Trail { events: u32, at: u32 },
 }
 
-/// Reads the source, and runs its deck as is asked with so many workers, 1 to 16 (docs/COMMANDS.md): the
+/// Reads the source, and runs its deck as is asked with so many workers, 1 to 16 (docs/guide/COMMANDS.md): the
 /// status and its text, or the status of a call that has none. It may wait for a thread.
 pub fn run_output<S: Source, G: Gate, R: Threads + Wait + Sync>(
     rt: &R,

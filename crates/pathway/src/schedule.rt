@@ -9,7 +9,7 @@ use pw_expand::expand::{ScheduleEnding, answer_source};
 use pw_input_output::status::Status;
 use std::alloc::Global;
 
-/// Reads the schedule of the source: the status and the text that answer it (docs/EXPAND.md), or the
+/// Reads the schedule of the source: the status and the text that answer it (docs/design/SYSTEMS.md), or the
 /// status of a call that has none.
 pub fn schedule_output<S: Source>(alloc: Global, source: &mut S) -> Result<(Status, Bytes), Status>
     ensures ok { IfOk result (λ output. OfSchedule (S.left source.old) output.0 output.1) }

@@ -19,7 +19,7 @@ use std::thread::Threads;
 
 /// The program: by the words after its name it reads a deck from the source, runs it with workers, over a disc
 /// that does not fail, over a disc pair or over a trail, and writes the report of the run, or the records that
-/// it left, to the sink; or it runs the generated deck; or it does what `desk` does (docs/COMMANDS.md). It
+/// it left, to the sink; or it runs the generated deck; or it does what `desk` does (docs/guide/COMMANDS.md). It
 /// answers the exit status. It may wait for a thread.
 ///
 /// The clause `ends` is the headline: where the deck has no fault the report is that of a run of it,

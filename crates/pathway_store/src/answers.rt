@@ -1,4 +1,4 @@
-//! The exit statuses and lines of a call that are no report's (docs/STORE.md).
+//! The exit statuses and lines of a call that are no report's (docs/guide/STORE.md).
 
 use pw_base::bytes::Bytes;
 use pw_base::fault::Fault;

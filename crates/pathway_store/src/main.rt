@@ -1,5 +1,5 @@
 //! A monitor whose records last: it runs a deck over the store in a folder, and writes the report of the run.
-//! docs/STORE.md has the rules.
+//! docs/guide/STORE.md has the rules.
 #![tactic(auto)]
 
 mod answers;

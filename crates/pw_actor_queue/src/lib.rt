@@ -1,5 +1,5 @@
 //! Who acts in a system, what a world notes of each actor, and who comes next of them.
-//! docs/WORLD.md has the rules.
+//! docs/design/ARCHITECTURE.md has the rules.
 #![tactic(auto)]
 
 pub mod actor;

@@ -1,4 +1,4 @@
--- The limits, each a number. What is above one is refused as docs/LIMITS.md says.
+-- The limits, each a number. What is above one is refused as docs/reference/DECK.md says.
 use Rattle.std.specs.Prelude.{ℕ}
 
 -- the most bytes of an input

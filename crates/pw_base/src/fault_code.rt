@@ -4,7 +4,7 @@ ghost use Rattle.pw_base.specs.FaultCodes.{place, number};
 use std::fmt::{self, Display, Formatter};
 
 /// What is wrong in a text that is refused. The variants stand in the order of their numbers, and
-/// docs/FAULTS.md tells of each.
+/// docs/reference/DECK.md tells of each.
 #[derive(Clone, Copy, Debug, PartialEq, Eq)]
 pub enum FaultCode {
     /// A byte outside 0x20 to 0x7E, or a character that begins no token.

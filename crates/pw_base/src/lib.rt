@@ -1,6 +1,6 @@
 //! What every crate stands on: bytes and lists that contracts see as lists, refusals and which is
 //! the first, and the outside as sources and sinks that count their faults.
-//! docs/FAULTS.md and docs/LIMITS.md have the rules.
+//! docs/reference/DECK.md has the rules.
 #![tactic(auto)]
 
 pub mod bytes;

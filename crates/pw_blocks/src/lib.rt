@@ -1,6 +1,6 @@
 //! Record files in blocks: records packed into blocks of bytes, in the order of their keys, and an
 //! index of the blocks' first keys.
-//! docs/FILES.md has the rules.
+//! docs/design/STORAGE.md has the rules.
 #![tactic(auto)]
 
 mod block;

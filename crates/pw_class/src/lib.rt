@@ -1,5 +1,5 @@
 //! The server classes: which requests wait for which class, and which process works on which.
-//! docs/LOCKS.md has the rules.
+//! docs/design/PROTOCOL.md has the rules.
 #![tactic(auto)]
 
 pub mod book;

@@ -6,7 +6,7 @@ use pw_picture::picture::Picture;
 use std::alloc::Global;
 
 /// A screen of a program: its name, and its fields in the order in which they are put. What holds of
-/// the fields of a program stands in docs/SCREENS.md (`IsTable`).
+/// the fields of a program stands in docs/reference/LANGUAGE.md (`IsTable`).
 #[derive(Debug, Drop)]
 pub struct ScreenTable {
     pub name: Bytes,

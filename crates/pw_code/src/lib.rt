@@ -1,6 +1,6 @@
 //! The plain types of the monitor: what a deck says, what its programs are compiled to, and what a
 //! program at work is.
-//! docs/CODE.md and docs/LIMITS.md have the rules.
+//! docs/design/MACHINE.md and docs/reference/DECK.md have the rules.
 #![tactic(auto)]
 
 pub mod code;

@@ -8,7 +8,7 @@ use crate::system::{
     MAX_SERVERS, MAX_TCPS, MAX_TERMINALS,
 };
 
-/// The constants are the numbers of the table of limits (docs/LIMITS.md), and a screen has 24 rows of 80 cells.
+/// The constants are the numbers of the table of limits (docs/reference/DECK.md), and a screen has 24 rows of 80 cells.
 pub fn limit_laws()
     ensures programs { MAX_PROGRAMS ≡ most_programs }
     ensures servers { MAX_SERVERS ≡ most_servers }

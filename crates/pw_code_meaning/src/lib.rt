@@ -1,6 +1,6 @@
 //! What compiled code does: where a run stands, what each instruction does, what the code asks after answers, and
 //! how a system behaves by its codes.
-//! docs/MACHINE.md has the rules.
+//! docs/design/MACHINE.md has the rules.
 #![tactic(auto)]
 
 pub mod examples;

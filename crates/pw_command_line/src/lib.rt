@@ -1,5 +1,5 @@
 //! The words of the command line, read by one simple command of `clap`.
-//! docs/COMMANDS.md has the rules.
+//! docs/guide/COMMANDS.md has the rules.
 #![tactic(auto)]
 
 pub mod read;

@@ -15,7 +15,7 @@ const MAX_EVENTS: u64 = 500_000;
 /// the command's.
 ///
 /// The words are `COMMAND [--workers N] [--events N] [--seed N] [--terms N] [--at N]`, where options
-/// may stand before the command too (docs/COMMANDS.md). An option that they lack has its default.
+/// may stand before the command too (docs/guide/COMMANDS.md). An option that they lack has its default.
 /// The clause `taken` is what `clap` says of words that it takes: they are refused where COMMAND is
 /// no command alone.
 pub fn read_words(alloc: Global, words: &[String]) -> Result<Words, WordsFault>

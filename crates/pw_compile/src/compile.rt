@@ -10,7 +10,7 @@ use pw_server::server::Server;
 use std::alloc::Global;
 
 /// The code of a requester whose names resolve, where its screens are numbered from `first_screen` on
-/// (docs/CODE.md). It has fewer than 2^32 instructions: more, or a number of a screen that does not fit
+/// (docs/design/MACHINE.md). It has fewer than 2^32 instructions: more, or a number of a screen that does not fit
 /// a `u32`, are `Memory`.
 pub fn compile(
     alloc: Global,
@@ -35,7 +35,7 @@ pub fn compile(
     )
 }
 
-/// The code of a server whose names resolve (docs/CODE.md). It has fewer than 2^32 instructions: more
+/// The code of a server whose names resolve (docs/design/MACHINE.md). It has fewer than 2^32 instructions: more
 /// are `Memory`.
 pub fn compile_server(alloc: Global, program: &Server, links: &Links) -> Result<Code, Memory>
     ensures code { IfOk result (λ code. code ≡ program_code program.now.name program.now.layout [] []

@@ -1,5 +1,5 @@
 //! The code of programs: what each statement of a requester or of a server becomes.
-//! docs/CODE.md has the rules.
+//! docs/design/MACHINE.md has the rules.
 #![tactic(auto)]
 
 pub mod compile;

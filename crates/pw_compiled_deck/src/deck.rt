@@ -93,7 +93,7 @@ fn compiled(alloc: Global, deck: trees::ParsedDeck) -> Result<Deck, Memory>
     })
 }
 
-/// Reads a deck (docs/DECK.md): its bytes once, and each section once, and compiles its programs.
+/// Reads a deck (docs/reference/DECK.md): its bytes once, and each section once, and compiles its programs.
 ///
 /// It refuses exactly with the deck's first fault, as `read_deck` does. The system that it gives is
 /// valid, and behaves by its codes as the deck does by the trees of its programs: so the paired system

@@ -1,5 +1,5 @@
 //! Whole decks: what a deck says, with its programs compiled.
-//! docs/DECK.md and docs/CODE.md have the rules.
+//! docs/reference/DECK.md and docs/design/MACHINE.md have the rules.
 #![tactic(auto)]
 
 mod codes;

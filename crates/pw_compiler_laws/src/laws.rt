@@ -37,7 +37,7 @@ ghost use Rattle.pw_compiler_laws.specs.Systems.{named_in, system_of};
 /// The code of each program of a deck whose names resolve does what the tree of the program means: a
 /// requester over each path, a server on each message over each list of file answers. It comes to the
 /// verb that the tree asks, run faults and the count of statements included, and shows the screen that the
-/// tree shows. What is taken of the deck besides is `AreFitting`, which docs/CODE.md says in words.
+/// tree shows. What is taken of the deck besides is `AreFitting`, which docs/design/MACHINE.md says in words.
 pub fn program_laws()
     ensures terminals { (rule : LockRule) (deck : DeckModel) → IsSoundDeck deck → AreFitting deck
         → (q : ℕ) → q < length deck.programs → (lines : List EntryLineModel) (path : List PathAnswer)

@@ -1,5 +1,5 @@
 //! That compiled code does what the trees of its programs mean.
-//! docs/CODE.md has the rules.
+//! docs/design/MACHINE.md has the rules.
 #![tactic(auto)]
 
 pub mod laws;

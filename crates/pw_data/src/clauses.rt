@@ -105,7 +105,7 @@ fn occurs_clause(cursor: &mut Cursor<'_>) -> Option<DataClause>
 }
 
 /// Takes the word PIC or PICTURE, if it comes next. It gives whether it does. Else the cursor stays
-/// where it is (docs/DATA.md).
+/// where it is (docs/reference/LANGUAGE.md).
 pub fn eat_pic(cursor: &mut Cursor<'_>) -> bool
     ensures found { result ≡ (sees_word (codes "PIC") cursor.old || sees_word (codes "PICTURE") cursor.old) }
     ensures left { cursor.new ≡ after_token (sees_word (codes "PIC") cursor.old || sees_word (codes "PICTURE") cursor.old) cursor.old }
@@ -133,7 +133,7 @@ fn one_clause(cursor: &mut Cursor<'_>) -> Option<DataClause>
     }
 }
 
-/// Whether a period is all that is left: the last token, and the end of its entry (docs/DATA.md).
+/// Whether a period is all that is left: the last token, and the end of its entry (docs/reference/LANGUAGE.md).
 pub fn is_end(cursor: &Cursor<'_>) -> bool
     ensures { result ≡ is_end cursor.now.tokens }
 {

@@ -67,7 +67,7 @@ fn has_table_name(server: bool, text: &[u8], name: Option<Token>) -> bool
     }
 }
 
-/// The first token's line, 0 where there is none. A refused entry has its fault there (docs/DATA.md).
+/// The first token's line, 0 where there is none. A refused entry has its fault there (docs/reference/LANGUAGE.md).
 pub fn line_of(tokens: &[Token]) -> u32
     ensures { result ≡ line_of tokens.now }
 {

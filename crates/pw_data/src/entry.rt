@@ -91,7 +91,7 @@ impl Entry {
     }
 }
 
-/// The picture that a token is (docs/NUMBERS.md). It is None without a token, and for one that is no
+/// The picture that a token is (docs/reference/LANGUAGE.md). It is None without a token, and for one that is no
 /// picture.
 pub fn picture_at(
     alloc: Global,

@@ -1,6 +1,6 @@
 //! Working storage and linkage: the items of a program's data, where each lies in its storage, and
 //! the characters with which the storage begins.
-//! docs/DATA.md has the rules.
+//! docs/reference/LANGUAGE.md has the rules.
 #![tactic(auto)]
 
 pub mod clauses;

@@ -25,7 +25,7 @@ fn level_of(number: u16) -> Option<u8>
     }
 }
 
-/// The level that a token is: 1 to 49 or 77, and None for a token that is no level (docs/DATA.md).
+/// The level that a token is: 1 to 49 or 77, and None for a token that is no level (docs/reference/LANGUAGE.md).
 pub fn level_in(text: &[u8], token: Token) -> Option<u8>
     ensures { result ≡ level_in text.now token }
 {

@@ -87,10 +87,10 @@ fn finish(alloc: Global, bytes: &[u8], parts: Parts) -> Result<ParsedDeck, Refus
     })
 }
 
-/// Reads a deck (docs/DECK.md): its bytes once, and each section once.
+/// Reads a deck (docs/reference/DECK.md): its bytes once, and each section once.
 ///
 /// It refuses exactly with the deck's first fault. Too long an input is 190 at line 0. The sections
-/// come in text order, and in a section the passes in the order of docs/DECK.md; the first pass that
+/// come in text order, and in a section the passes in the order of docs/reference/DECK.md; the first pass that
 /// has a fault gives its first, by line and on one line by code. Behind the sections come 192, and then
 /// 161, 162, 123 in procedures, 163, 164, 183 and 185 in this order, each by line.
 ///

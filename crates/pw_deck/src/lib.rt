@@ -1,5 +1,5 @@
 //! The reader of decks.
-//! docs/DECK.md has the rules.
+//! docs/reference/DECK.md has the rules.
 #![tactic(auto)]
 
 pub mod deck;

@@ -26,7 +26,7 @@ pub enum ReportedRun<D: Disc> {
     Failed(D),
 }
 
-/// Runs a setup within bounds over a disc of its system (docs/DESK.md): how the run ended, with the report of
+/// Runs a setup within bounds over a disc of its system (docs/design/ARCHITECTURE.md): how the run ended, with the report of
 /// its log, or the disc that has failed. It may wait for a thread.
 pub fn run_reported<D: Disc, G: Gate, R: Threads + Wait + Sync>(
     rt: &R,

@@ -22,11 +22,11 @@ use std::alloc::Global;
 use std::sync::Wait;
 use std::thread::Threads;
 
-/// Runs the deck of these bytes within bounds (docs/DESK.md): how the run ended, and the report of its
+/// Runs the deck of these bytes within bounds (docs/design/ARCHITECTURE.md): how the run ended, and the report of its
 /// log. It refuses exactly with the deck's first fault. It may wait for a thread.
 ///
 /// The log is a run of the deck, by the trees of its programs, and keeps what is promised of logs
-/// (docs/PROMISES.md): its screens and records are those of the one-copy machine on its serial order; each
+/// (docs/proof/PROMISES.md): its screens and records are those of the one-copy machine on its serial order; each
 /// unit number ends at most once; a pair is lost only by failures, and its terminals, and no others, end as
 /// Lost; and a terminal is suspended only after its restarts. It is the log that is read back from the report.
 pub fn run<G: Gate, R: Threads + Wait + Sync>(

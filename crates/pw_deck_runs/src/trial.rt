@@ -23,7 +23,7 @@ use std::sync::Wait;
 use std::thread::Threads;
 
 /// Runs the deck that is generated of a seed for 1 to 64 terminals, with from 1 to 16 workers, for at
-/// most 500,000 entries (docs/DESK.md): how the run ended, and the FILES part of its report. The deck has
+/// most 500,000 entries (docs/design/ARCHITECTURE.md): how the run ended, and the FILES part of its report. The deck has
 /// no fault, so it is not refused. A run that is finished has ended regularly, and its text is the same at
 /// each call: it tells of each key how many entries have it. It may wait for a thread.
 pub fn trial<G: Gate, R: Threads + Wait + Sync>(

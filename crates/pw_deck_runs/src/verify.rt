@@ -22,7 +22,7 @@ use pw_world::world::World;
 use pw_world_state::setup::Setup;
 use std::alloc::Global;
 
-/// What the replay of a log comes to (docs/DESK.md).
+/// What the replay of a log comes to (docs/design/ARCHITECTURE.md).
 #[derive(Clone, Copy, Debug, PartialEq, Eq)]
 pub enum Verified {
     /// Each entry is a step.
@@ -31,7 +31,7 @@ pub enum Verified {
     NotAStep,
 }
 
-/// Replays the log of the deck of these bytes under the rule of its version (docs/DESK.md): the report of
+/// Replays the log of the deck of these bytes under the rule of its version (docs/design/ARCHITECTURE.md): the report of
 /// it, or the line of its first entry that is no step. It refuses exactly with the deck's first fault.
 pub fn verify(alloc: Global, bytes: &[u8]) -> Result<(Verified, Bytes), Refusal>
     ensures ok { IfOk result (λ output. Verifies bytes.now output.0 output.1) }

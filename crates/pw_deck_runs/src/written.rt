@@ -35,7 +35,7 @@ pub struct Ran<D: Disc> {
 }
 
 /// Runs a system over a disc of it with from 1 to 16 workers, for at most so many entries, and writes
-/// the report of its log (docs/DESK.md). It may wait for a thread.
+/// the report of its log (docs/design/ARCHITECTURE.md). It may wait for a thread.
 ///
 /// The status is 0, 1 or 3 by the run's end, with the whole report; 5 only where the sink failed,
 /// with a beginning of it; 9 only where the disc failed, with nothing written; or 6, for want of memory.

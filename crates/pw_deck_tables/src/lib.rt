@@ -1,6 +1,6 @@
 //! What a deck says besides its programs: the sections that are no source, and the tables of its
 //! system.
-//! docs/DECK.md has the rules.
+//! docs/reference/DECK.md has the rules.
 #![tactic(auto)]
 
 pub mod objects;

@@ -85,7 +85,7 @@ fn read_message(alloc: Global, bytes: &[u8]) -> Result<DiscCall, BytesFault>
     Ok(call)
 }
 
-/// The call that a disc message is of. It is `Bad` exactly where the bytes are no message; docs/DISC.md has the format.
+/// The call that a disc message is of. It is `Bad` exactly where the bytes are no message; docs/design/STORAGE.md has the format.
 pub fn decode_call(alloc: Global, bytes: &[u8]) -> Result<DiscCall, BytesFault>
     // What is read has these bytes as its message, and no other call has.
     ensures message { IfOk result (IsMessageOf bytes.now) }

@@ -13,7 +13,7 @@ use pw_code::file::{FileCall, FileOp};
 use pw_code::unit::Unit;
 use std::alloc::Global;
 
-/// The message of a call of a disc. docs/DISC.md has the format. A length or a count that is too large for its four
+/// The message of a call of a disc. docs/design/STORAGE.md has the format. A length or a count that is too large for its four
 /// bytes is taken for want of memory.
 pub fn encode_call(alloc: Global, call: &DiscCall) -> Result<Bytes, Memory>
     ensures message { IfOk result (λ message. message ≡ message_of call.now) }

@@ -1,6 +1,6 @@
-//! A disc process as a fault-tolerant pair: the disc of docs/TMF.md, kept by a primary and its backup; the messages between
+//! A disc process as a fault-tolerant pair: the disc of docs/design/STORAGE.md, kept by a primary and its backup; the messages between
 //! them as bytes, both ways; and the script of its failures.
-//! docs/DISC.md has the rules.
+//! docs/design/STORAGE.md has the rules.
 #![tactic(auto)]
 
 pub mod acting;

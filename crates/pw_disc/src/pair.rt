@@ -30,7 +30,7 @@ use pw_tmf::tmf::Tmf;
 use std::alloc::Global;
 use std::marker::Model;
 
-/// A disc that a primary and its backup keep. They fail as a script says. docs/DISC.md has the steps of a call.
+/// A disc that a primary and its backup keep. They fail as a script says. docs/design/STORAGE.md has the steps of a call.
 #[derive(Debug, Drop)]
 pub struct DiscPair {
     primary: Tmf,

@@ -155,7 +155,7 @@ fn lines_of(alloc: Global, text: &[u8], first_line: u32) -> Result<List<DiscLine
     Ok(own)
 }
 
-/// The disc script of a deck: the lines behind `?END` (docs/DISC.md).
+/// The disc script of a deck: the lines behind `?END` (docs/design/STORAGE.md).
 ///
 /// It refuses exactly with the first fault by line: 196 for the 65th line that is not empty, and 172 for another one that
 /// says no failure.

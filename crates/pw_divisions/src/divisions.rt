@@ -111,7 +111,7 @@ fn line_at(first_line: u32, tokens: &[Token], left: &[Token]) -> u32
 ///
 /// It refuses exactly with 151 at the line of the first token that may not stand where it is. Where the
 /// text ends too early that is the line of its last token, or its first line where it has none. The
-/// rules stand in `docs/PROGRAMS.md`.
+/// rules stand in `docs/reference/LANGUAGE.md`.
 pub fn divide<'a>(
     alloc: Global,
     server: bool,

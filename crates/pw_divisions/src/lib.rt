@@ -1,6 +1,6 @@
 //! How the source of a program is divided: its divisions, the sections of its data, and the entries of
 //! a section.
-//! docs/PROGRAMS.md has the rules.
+//! docs/reference/LANGUAGE.md has the rules.
 #![tactic(auto)]
 
 pub mod data;

@@ -13,7 +13,7 @@ use pw_tmf::answer::DiscFault;
 use pw_tmf::disc::Disc;
 use pw_world_store::keep::Keep;
 
-/// Does an entry to what is kept (docs/WORLD.md). An `Err` leaves all as it was, but for the disc's
+/// Does an entry to what is kept (docs/design/ARCHITECTURE.md). An `Err` leaves all as it was, but for the disc's
 /// count where the disc failed.
 pub fn act<D: Disc>(keep: &mut Keep<D>, entry: &Event) -> Result<(), DiscFault>
     requires { CanAct keep.old.system (kept_in D.told keep.old) entry.now }

@@ -1,5 +1,5 @@
 //! The entries of a run, each done to what a monitor keeps.
-//! docs/WORLD.md has the rules.
+//! docs/design/ARCHITECTURE.md has the rules.
 #![tactic(auto)]
 
 pub mod act;

@@ -1,6 +1,6 @@
 //! Whether an entry of the log is a step by what a monitor keeps, and a step of each actor that has
 //! one.
-//! docs/WORLD.md has the rules.
+//! docs/design/ARCHITECTURE.md has the rules.
 #![tactic(auto)]
 
 mod causes;

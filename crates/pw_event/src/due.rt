@@ -58,7 +58,7 @@ fn owner_of_line(line: FailLine) -> Owner
     }
 }
 
-/// After how many entries of its owner, a pair or a class, a failure line is due (docs/LOG.md).
+/// After how many entries of its owner, a pair or a class, a failure line is due (docs/reference/DECK.md).
 pub fn after_of(line: FailLine) -> u32
     ensures { result ≡ after_of line }
 {
@@ -87,7 +87,7 @@ fn entries_of(system: &System, owner: Owner, log: &[Event]) -> usize
 }
 
 /// Whether an entry is the FAIL entry of the failure line of this number, from 1 over the whole script
-/// (docs/LOG.md).
+/// (docs/reference/DECK.md).
 pub fn is_fail_of(number: u32, event: &Event) -> bool
     ensures { result ≡ is_fail_of number event.now }
 {

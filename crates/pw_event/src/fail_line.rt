@@ -124,7 +124,7 @@ fn fail_of(alloc: Global, names: &SystemNames, words: &[&[u8]]) -> Result<FailLi
 
 impl SystemNames<'_> {
     /// Reads a failure line: TCP p PRIMARY AFTER n, TCP p BACKUP AFTER n or SERVER c i AFTER n, with n from 0 to
-    /// `MAX_AFTER` and i from 1 to `MAX_PROCESSES` (docs/LOG.md).
+    /// `MAX_AFTER` and i from 1 to `MAX_PROCESSES` (docs/reference/DECK.md).
     ///
     /// The name may stand in either case. It answers `Bad` exactly where the line is outside the grammar, and
     /// `Unknown` exactly where it is in the grammar and the name or the number of the process is not the system's.

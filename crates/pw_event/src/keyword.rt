@@ -4,7 +4,7 @@ ghost use Rattle.pw_event.specs.Keywords.{keyword_text, keywords, keyword};
 
 use crate::fault::EventFault;
 
-/// A word that stands in lines of logs and of failures itself, in upper case (docs/LOG.md).
+/// A word that stands in lines of logs and of failures itself, in upper case (docs/reference/DECK.md).
 #[derive(Clone, Copy)]
 pub enum Keyword {
     Show,

@@ -11,7 +11,7 @@ ghost use Rattle.pw_event.specs.declared.fault.EventFault.TheVariants.{Memory};
 
 use crate::script::{MAX_AFTER, MAX_FAIL_LINES};
 
-/// The constants are the numbers of the table of limits (docs/LIMITS.md).
+/// The constants are the numbers of the table of limits (docs/reference/DECK.md).
 pub fn limit_laws()
     ensures lines { MAX_FAIL_LINES ≡ most_fail_lines }
     ensures after { MAX_AFTER ≡ most_after }

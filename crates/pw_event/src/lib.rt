@@ -1,5 +1,5 @@
 //! The entries of the log and the failure lines: their spelling, and which failure line is due.
-//! docs/LOG.md has the rules.
+//! docs/reference/DECK.md has the rules.
 #![tactic(auto)]
 
 mod causes;

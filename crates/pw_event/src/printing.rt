@@ -15,7 +15,7 @@ use pw_code::lock::{LockMode, LockRule};
 use pw_code::system::System;
 use std::alloc::Global;
 
-/// The words of an entry, without its number in the log and without a line's end (docs/LOG.md).
+/// The words of an entry, without its number in the log and without a line's end (docs/reference/DECK.md).
 pub fn print_event(alloc: Global, system: &System, event: &Event) -> Result<Bytes, Memory>
     requires { IsNamed system.now event.now }
     ensures { IfOk result (λ text. text ≡ event_text system.now event.now) }

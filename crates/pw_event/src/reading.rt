@@ -67,7 +67,7 @@ fn event_of(names: &SystemNames, words: &[&[u8]]) -> Result<Event, EventFault>
 }
 
 impl SystemNames<'_> {
-    /// Reads a line of the log, without its number (docs/LOG.md). It costs about the line's length, whatever the
+    /// Reads a line of the log, without its number (docs/reference/DECK.md). It costs about the line's length, whatever the
     /// number of names.
     ///
     /// Under ReadersShare a FILE line has its mode, and under AllExclusive none, where the mode is `Exclusive`. Names

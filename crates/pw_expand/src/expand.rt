@@ -22,7 +22,7 @@ pub enum ScheduleEnding {
 }
 
 /// The output for a schedule: a line for each message that its events send, and then one for each
-/// mark that they leave (docs/EXPAND.md). It refuses exactly with the line of the schedule's first
+/// mark that they leave (docs/design/SYSTEMS.md). It refuses exactly with the line of the schedule's first
 /// fault, which is 0 for an input over the limit.
 pub fn expand(alloc: Global, bytes: &[u8]) -> Result<Bytes, ScheduleFault>
     ensures ok { IfOk result (λ text. expanded bytes.now ≡ Ok text) }
@@ -33,7 +33,7 @@ pub fn expand(alloc: Global, bytes: &[u8]) -> Result<Bytes, ScheduleFault>
     Ok(text)
 }
 
-/// How a schedule is answered, and what is written then (docs/EXPAND.md).
+/// How a schedule is answered, and what is written then (docs/design/SYSTEMS.md).
 pub fn answer(alloc: Global, bytes: &[u8]) -> Result<(ScheduleEnding, Bytes), Memory>
     ensures { IfOk result (λ answer. (answer.0, answer.1) ≡ schedule_answered (expanded bytes.now)) }
 {

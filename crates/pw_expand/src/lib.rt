@@ -1,6 +1,6 @@
 //! Schedules of transactions over several systems: reading them, and the messages and marks that
 //! they make.
-//! docs/EXPAND.md has the rules.
+//! docs/design/SYSTEMS.md has the rules.
 #![tactic(auto)]
 
 pub mod event;

@@ -215,7 +215,7 @@ fn event_by(alloc: Global, systems: u32, words: &[&[u8]]) -> Result<Option<Sched
 }
 
 /// The event that a line names among this many systems, None exactly where it names none
-/// (docs/EXPAND.md).
+/// (docs/design/SYSTEMS.md).
 #[tactic(auto, unfolding(crate::specs::Events::event_in))]
 pub fn event_in(alloc: Global, systems: u32, line: &[u8]) -> Result<Option<ScheduleEvent>, Memory>
     ensures { IfOk result (λ event. option_map net_event event ≡ event_in systems line.now) }

@@ -112,7 +112,7 @@ fn play_from(
     Ok(systems)
 }
 
-/// Does the events of the schedule that a text of at most 16 MiB is (docs/EXPAND.md). It gives how
+/// Does the events of the schedule that a text of at most 16 MiB is (docs/design/SYSTEMS.md). It gives how
 /// many systems there are, and refuses exactly with the line of the schedule's first fault.
 fn play(alloc: Global, world: &mut Systems, text: &[u8]) -> Result<u32, ScheduleFault>
     requires few { length text.now ≤ longest_input }
@@ -133,7 +133,7 @@ fn play(alloc: Global, world: &mut Systems, text: &[u8]) -> Result<u32, Schedule
     Err(ScheduleFault::At { line: number })
 }
 
-/// The net world of a schedule, and how many systems it has (docs/EXPAND.md). It refuses exactly
+/// The net world of a schedule, and how many systems it has (docs/design/SYSTEMS.md). It refuses exactly
 /// with the line of the schedule's first fault, which is 0 for an input over the limit.
 pub fn play_schedule(alloc: Global, bytes: &[u8]) -> Result<(u32, Systems), ScheduleFault>
     ensures ok { IfOk result (λ shown. schedule_played first_world (schedule_of bytes.now)

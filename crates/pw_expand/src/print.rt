@@ -117,7 +117,7 @@ fn put_all_marks(
 }
 
 /// The lines of a net of so many systems: its messages in order, and then its marks
-/// (docs/EXPAND.md).
+/// (docs/design/SYSTEMS.md).
 pub fn world_text(alloc: Global, world: &Systems, systems: u32) -> Result<Bytes, Memory>
     ensures { IfOk result (λ text. text ≡ world_text systems (world_of world.now.members.entries world.now.sent.items)) }
 {

@@ -8,7 +8,7 @@ use std::os::unix::fs::FileExt;
 use std::snapshot::Snapshot;
 
 /// A file of the operating system. Each call makes one of std, and then notes what contracts see of it: that the system
-/// has done it is trusted (docs/VOLUME.md).
+/// has done it is trusted (docs/design/STORAGE.md).
 #[derive(Drop)]
 pub struct HostFile {
     file: File,

@@ -1,4 +1,4 @@
-//! A disk over one file of the system, for a store that lasts. docs/VOLUME.md has what is trusted of the file.
+//! A disk over one file of the system, for a store that lasts. docs/design/STORAGE.md has what is trusted of the file.
 #![tactic(auto)]
 
 pub mod change;

@@ -1,5 +1,5 @@
 //! Record files: records in the order of their keys, found by key, and a plain form of them.
-//! docs/FILES.md has the rules.
+//! docs/design/STORAGE.md has the rules.
 #![tactic(auto)]
 
 pub mod laws;

@@ -8,7 +8,7 @@ use pw_base::memory::Memory;
 
 /// A file of records. Each record is its content, and its key is the first bytes of it, as many as
 /// the file's keys are long, 1 to 255. Keys are compared as bytes, and no two records have the same one.
-/// docs/FILES.md has the rules.
+/// docs/design/STORAGE.md has the rules.
 pub trait RecordFile {
     ghost key_length: { Self → ℕ };
 

@@ -32,7 +32,7 @@ impl Model for SortedFile {
 }
 
 /// How the key of a content compares with a key: byte by byte, and the beginning of a key is below it
-/// (docs/FILES.md). The key of a content that is shorter than a key is all of it.
+/// (docs/design/STORAGE.md). The key of a content that is shorter than a key is all of it.
 pub fn compared(content: &[u8], key_length: usize, key: &[u8]) -> Ordering
     ensures { result ≡ compared key_length key.now content.now }
 {

@@ -1,6 +1,6 @@
 //! The procedures of programs: their text is cut into pieces, each piece is matched with the forms
 //! of the language, and the tree of the statements is built.
-//! docs/PROCEDURE.md has the rules.
+//! docs/reference/LANGUAGE.md has the rules.
 #![tactic(auto)]
 
 mod block;

@@ -210,7 +210,7 @@ impl ProcedureReading {
 /// in front of the first paragraph, and for a piece that would open the 65th open branch; 132 for an
 /// ELSE or END-IF that finds no branch; 133 for the name of a paragraph that an earlier one has; and,
 /// in a server, 152 in place of 131 for a piece that begins with ACCEPT, CALL, DISPLAY, SEND or a verb
-/// of transactions. The rules stand in `docs/PROCEDURE.md`.
+/// of transactions. The rules stand in `docs/reference/LANGUAGE.md`.
 pub fn procedure(
     alloc: Global,
     text: &[u8],

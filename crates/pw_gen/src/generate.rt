@@ -10,7 +10,7 @@ use std::alloc::Global;
 /// How many entry lines a terminal has.
 const ENTRIES: u32 = 8;
 
-/// The deck of a seed and a number of terminals (docs/COMMANDS.md). From 1 to 64 terminals it is a
+/// The deck of a seed and a number of terminals (docs/guide/COMMANDS.md). From 1 to 64 terminals it is a
 /// deck without a fault.
 pub fn generate(alloc: Global, seed: u32, terminals: u32) -> Result<Bytes, Memory>
     ensures { IfOk result (λ deck. deck ≡ generated seed terminals) }

@@ -1,5 +1,5 @@
 //! The generated deck: a deck of any number of terminals, whose entries are drawn from a seed, and that it has no fault.
-//! docs/COMMANDS.md has the rules.
+//! docs/guide/COMMANDS.md has the rules.
 #![tactic(auto)]
 
 pub mod generate;

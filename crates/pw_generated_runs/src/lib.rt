@@ -1,5 +1,5 @@
 //! Laws alone: what each run of a generated deck leaves, whatever the schedule and whatever fails.
-//! docs/INVARIANTS.md has the rules.
+//! docs/proof/INVARIANTS.md has the rules.
 #![tactic(auto)]
 
 pub mod laws;

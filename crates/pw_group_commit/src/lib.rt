@@ -1,4 +1,4 @@
-//! A disc over a trail that makes the units which commit durable in groups. docs/TRAIL.md has the rules.
+//! A disc over a trail that makes the units which commit durable in groups. docs/design/STORAGE.md has the rules.
 #![tactic(auto)]
 
 pub mod followed_log;

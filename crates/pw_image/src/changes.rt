@@ -12,7 +12,7 @@ use std::alloc::Global;
 /// How many records are compared at once.
 const GROUP: u32 = 4;
 
-/// The records of the new image that differ from those of the old one, which is as long (docs/IMAGE.md). It costs the
+/// The records of the new image that differ from those of the old one, which is as long (docs/design/ARCHITECTURE.md). It costs the
 /// bytes of one image. An image with more than 2^32 - 1 records is `Memory`.
 pub fn changes(alloc: Global, old: &[u8], new: &[u8]) -> Result<Changes, Memory>
     requires { length old.now ≡ length new.now }

@@ -102,7 +102,7 @@ fn read_image(alloc: Global, bytes: &[u8]) -> Result<Context, BytesFault>
     Ok(context)
 }
 
-/// The context that an image is of. It is `Bad` exactly where the bytes are no image; docs/IMAGE.md has the format.
+/// The context that an image is of. It is `Bad` exactly where the bytes are no image; docs/design/ARCHITECTURE.md has the format.
 pub fn decode(alloc: Global, bytes: &[u8]) -> Result<Context, BytesFault>
     // What is read has these bytes as its image.
     ensures image { IfOk result (IsImageOf bytes.now) }

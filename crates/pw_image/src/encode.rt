@@ -25,7 +25,7 @@ const FRAME: usize = 11;
 const RETURN: usize = 16;
 
 /// The image of a context that has one: of a requester that stands at an answer, without a count, a fault or a file
-/// status. docs/IMAGE.md has the format.
+/// status. docs/design/ARCHITECTURE.md has the format.
 pub fn encode(alloc: Global, context: &Context) -> Result<Bytes, Memory>
     requires { HasImage context.now }
     ensures image { IfOk result (λ image. image ≡ image_of context.now) }

@@ -1,5 +1,5 @@
 //! Checkpoint images: the bytes of a context, both ways, and the records of an image that changed.
-//! docs/IMAGE.md has the rules.
+//! docs/design/ARCHITECTURE.md has the rules.
 #![tactic(auto)]
 
 pub mod changed;

@@ -8,7 +8,7 @@ use pw_base::source::Source;
 use std::alloc::Global;
 
 /// Reads the input of a call: all bytes that the source had left, at most 16,777,216 of them, or None exactly
-/// where it had more (docs/LIMITS.md).
+/// where it had more (docs/reference/DECK.md).
 ///
 /// An Err is the status of a call that has no text: `ReadFault` only where the source failed, or `Memory`.
 pub fn read_input<S: Source>(alloc: Global, source: &mut S) -> Result<Option<Bytes>, Status>

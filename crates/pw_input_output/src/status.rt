@@ -1,7 +1,7 @@
 ghost use Rattle.std.specs.Prelude.{◌≡◌};
 ghost use Rattle.pw_input_output.specs.Numbers.{status_number};
 
-/// How a call of the program ends (docs/COMMANDS.md).
+/// How a call of the program ends (docs/guide/COMMANDS.md).
 #[derive(Clone, Copy, Debug, PartialEq, Eq)]
 pub enum Status {
     /// Every terminal has ended, each STOPPED or NOENTRIES; the log of the deck is a run; the deck or

@@ -1,6 +1,6 @@
 //! Laws alone: what each unit of an application keeps while it runs alone holds in every run of it, whatever the schedule and
 //! whatever fails.
-//! docs/INVARIANTS.md has the rules.
+//! docs/proof/INVARIANTS.md has the rules.
 #![tactic(auto)]
 
 pub mod bank;

@@ -1,6 +1,6 @@
 //! The laws of the paired system: of its runs, its legality, its locks and records, its attempts, its
 //! progress, and the headline, that every run is serializable.
-//! docs/PAIRED.md and docs/PROOF.md have the rules.
+//! docs/design/PROTOCOL.md has the rules.
 #![tactic(auto)]
 
 pub mod attempts;

@@ -1,5 +1,5 @@
 //! A lane from a primary to its backup. The primary's end gives a receipt for each message that it sends, and the
-//! backup's end gives the receipt's message. docs/LINK.md has the rule.
+//! backup's end gives the receipt's message. docs/design/ARCHITECTURE.md has the rule.
 #![tactic(auto)]
 
 mod ends;

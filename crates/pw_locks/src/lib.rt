@@ -1,5 +1,5 @@
 //! The locks that units hold on the records of files, and which of them conflict.
-//! docs/LOCKS.md has the rules.
+//! docs/design/PROTOCOL.md has the rules.
 #![tactic(auto)]
 
 pub mod book;

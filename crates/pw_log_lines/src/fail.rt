@@ -94,7 +94,7 @@ fn count_of_nobody(
     count_lines::<FailureLines>(alloc, &names, text, first_line)
 }
 
-/// How many failure lines a text has, whose first line has the number `first_line` (docs/DECK.md).
+/// How many failure lines a text has, whose first line has the number `first_line` (docs/reference/DECK.md).
 ///
 /// It refuses exactly with the first fault, by line and on one line by code: 172 for a line outside
 /// the grammar, and 196 for the line above `MAX_FAIL_LINES`. What the lines name is not looked at.

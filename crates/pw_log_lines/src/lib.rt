@@ -1,5 +1,5 @@
 //! The failure lines and the log of a deck.
-//! docs/DECK.md and docs/LOG.md have the rules.
+//! docs/reference/DECK.md has the rules.
 #![tactic(auto)]
 
 mod count;

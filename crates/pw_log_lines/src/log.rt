@@ -239,7 +239,7 @@ fn count_under(alloc: Global, rule: LockRule, text: &[u8], first_line: u32) -> R
 }
 
 /// How many entries the log of a text has, whose first line has the number `first_line`
-/// (docs/DECK.md).
+/// (docs/reference/DECK.md).
 ///
 /// It refuses exactly with the first fault, by line and on one line by code: 171 for a line outside
 /// the grammar or with another number, and 196 for the line above `MAX_LOG_LINES`. What the lines

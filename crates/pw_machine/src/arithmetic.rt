@@ -68,7 +68,7 @@ fn stored_by(storage: &mut [u8], spot: MachineSpot, value: Scaled) -> bool
 }
 
 /// Does an operation, whose result a spot receives. It is false exactly on a size error, which leaves all as it is; a
-/// divisor of zero is one (docs/NUMBERS.md).
+/// divisor of zero is one (docs/reference/LANGUAGE.md).
 #[inline(always)]
 pub fn computed(
     storage: &mut [u8],

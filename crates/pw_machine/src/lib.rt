@@ -1,5 +1,5 @@
 //! The machine that runs compiled code.
-//! docs/MACHINE.md has the rules.
+//! docs/design/MACHINE.md has the rules.
 #![tactic(auto)]
 
 mod act;

@@ -1,6 +1,6 @@
 //! The names of a deck's programs: whether each stands for something, whether each operand has its
 //! kind and length, and whether each CALL fits the program that it calls.
-//! docs/NAMES.md has the rules.
+//! docs/reference/LANGUAGE.md has the rules.
 #![tactic(auto)]
 
 mod calls;

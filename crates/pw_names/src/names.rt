@@ -153,7 +153,7 @@ fn first_fault(
 ///   outside each OCCURS.
 ///
 /// Where it accepts them, each name of each of them resolves, and each operand has its kind and
-/// length (docs/NAMES.md). Each name is looked up in few steps, however many there are.
+/// length (docs/reference/LANGUAGE.md). Each name is looked up in few steps, however many there are.
 pub fn names(
     alloc: Global,
     requesters: &[Requester],

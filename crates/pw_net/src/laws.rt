@@ -8,7 +8,7 @@ ghost use Rattle.pw_net.specs.declared.message.NetWord.TheVariants.{Yes};
 /// Behind every list of events, for any number of systems: where a transaction is Committed at some
 /// system, it is Aborted at none of its systems, and each of its systems but the home has sent Yes
 /// and is Prepared or Committed. A Committed or Aborted mark never changes, at any system. The
-/// rules and the premise stand in docs/NET.md.
+/// rules and the premise stand in docs/design/SYSTEMS.md.
 pub fn agreement_laws()
     ensures agree { (events : List NetEvent) (id : NetId) (one other : ℕ)
         → mark_at (net_world_after events) one id ≡ Some Committed → IsSystemOf events id other

@@ -1,5 +1,5 @@
 //! Two-phase commit over several systems: what a member does, and that no two systems of a transaction disagree.
-//! docs/NET.md has the rules.
+//! docs/design/SYSTEMS.md has the rules.
 #![tactic(auto)]
 
 mod ballot;

@@ -14,7 +14,7 @@ use std::marker::Model;
 /// One system's part in transactions over several systems. Contracts see its system, the last
 /// number that it began, and how it stands to each transaction, by home and number. Each call
 /// answers the messages to send, in order, or `Memory`, which leaves the member as it was. The
-/// rules stand in docs/NET.md.
+/// rules stand in docs/design/SYSTEMS.md.
 #[derive(Debug, Drop)]
 pub struct Member {
     alloc: Global,

@@ -1,6 +1,6 @@
 //! Decimal numbers with a fixed number of places: exact sums, differences and products, quotients
 //! that are cut toward zero, and the order of the values.
-//! docs/NUMBERS.md has the rules.
+//! docs/reference/LANGUAGE.md has the rules.
 #![tactic(auto)]
 
 pub mod add;

@@ -1,5 +1,5 @@
 //! What the names of a program stand for, things by their names, and what may stand for each operand of each form.
-//! docs/NAMES.md has the rules.
+//! docs/reference/LANGUAGE.md has the rules.
 #![tactic(auto)]
 
 pub mod index;

@@ -1,6 +1,6 @@
 //! Laws alone: the order entry of decks/applications/orders.deck, whose orders are
 //! numbered without a gap in every run, and whose stock that is taken is ordered.
-//! docs/INVARIANTS.md has the way.
+//! docs/proof/INVARIANTS.md has the way.
 #![tactic(auto)]
 
 pub mod orders;

@@ -1,6 +1,6 @@
 //! The pair of a terminal control process: its mode, what its backup holds of each terminal, and the checkpoint messages
 //! in flight. Images are bytes here.
-//! docs/PAIRS.md has the rules.
+//! docs/design/ARCHITECTURE.md has the rules.
 #![tactic(auto)]
 
 pub mod backup;

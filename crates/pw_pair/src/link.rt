@@ -12,7 +12,7 @@ use std::marker::Model;
 
 /// The work of building the image of a message outside its pair: copies of the message and of the
 /// start image that the backup holds of its terminal. A message of changes has that start image
-/// beside it, and they fit it (docs/PAIRS.md).
+/// beside it, and they fit it (docs/design/ARCHITECTURE.md).
 #[derive(Debug, Drop)]
 pub struct LinkTask {
     /// The number of the terminal.

@@ -16,7 +16,7 @@ use std::marker::Model;
 use std::mem;
 
 /// A pair: its mode, what its backup holds, and the messages in flight to it. Contracts see the mode and the seats of
-/// its terminals; docs/PAIRS.md tells what each call does to them.
+/// its terminals; docs/design/ARCHITECTURE.md tells what each call does to them.
 #[derive(Debug, Drop)]
 pub struct Pair {
     mode: Mode,

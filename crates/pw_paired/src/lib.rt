@@ -1,5 +1,5 @@
 //! The paired system: its state, its steps and runs, and what a log means.
-//! docs/PAIRED.md has the rules.
+//! docs/design/PROTOCOL.md has the rules.
 #![tactic(auto)]
 
 pub mod entries;

@@ -1,5 +1,5 @@
 //! The commands of a deck: what they set, add and start.
-//! docs/DECK.md has the rules.
+//! docs/reference/DECK.md has the rules.
 #![tactic(auto)]
 
 pub mod commands;

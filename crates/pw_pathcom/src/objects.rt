@@ -228,7 +228,7 @@ pub fn first_bad_start(
 }
 
 /// The outcome of a pass that gives nothing else: nothing, or the refusal for its fault, with the same
-/// line and code (docs/DECK.md).
+/// line and code (docs/reference/DECK.md).
 pub fn unless(fault: Option<Fault>) -> Result<(), Refusal>
     ensures { Gives (λ done. done) result (unless fault (tt {0})) }
 {

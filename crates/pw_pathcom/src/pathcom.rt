@@ -9,7 +9,7 @@ use pw_base::fault::Refusal;
 use pw_sections::line::next_line;
 use std::alloc::Global;
 
-/// The commands of a text whose first line has the number `first_line` (docs/DECK.md).
+/// The commands of a text whose first line has the number `first_line` (docs/reference/DECK.md).
 ///
 /// It refuses exactly with the first fault, by line and on one line by code: 181 for a line that is no
 /// command; 182 for an ADD of a name that was added before; 184 for a number outside its range, and for

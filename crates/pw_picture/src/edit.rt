@@ -84,7 +84,7 @@ fn shows_minus(value: Scaled, size: u64) -> bool
 impl Picture {
     /// Writes a number as it is edited for a screen: its digits stand at the point, high digits are
     /// dropped and decimals beyond the picture's are cut. The picture is an `Edited`, and `into` is as
-    /// long as it. It takes one pass over the symbols (docs/NUMBERS.md).
+    /// long as it. It takes one pass over the symbols (docs/reference/LANGUAGE.md).
     pub fn edit(&self, value: Scaled, into: &mut [u8])
         requires picture { IsPicture self.now }
         requires edited { IsTrue (is_edited_picture self.now) }

@@ -1,5 +1,5 @@
 //! Pictures of items: which texts are one, and how numbers and texts are held by them.
-//! docs/NUMBERS.md has the rules.
+//! docs/reference/LANGUAGE.md has the rules.
 #![tactic(auto)]
 
 pub mod edit;

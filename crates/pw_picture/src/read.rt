@@ -42,7 +42,7 @@ fn value_of(chars: &[u8]) -> u64
     value
 }
 
-/// The number of this sign and size, with so many of its digits behind the point (docs/NUMBERS.md).
+/// The number of this sign and size, with so many of its digits behind the point (docs/reference/LANGUAGE.md).
 #[inline(always)]
 pub fn number_with(negative: bool, size: u64, places: u8) -> Scaled
     requires size { size < 10 ^ 18 }

@@ -14,7 +14,7 @@ fn may_repeat(symbol: u8) -> bool
     symbol == b'X' || symbol == b'9' || symbol == b'Z'
 }
 
-/// Whether the first character is this one. An empty text has none (docs/NUMBERS.md).
+/// Whether the first character is this one. An empty text has none (docs/reference/LANGUAGE.md).
 pub fn begins_with(wanted: u8, text: &[u8]) -> bool
     ensures { result ≡ begins_with wanted text.now }
 {
@@ -35,7 +35,7 @@ fn count_of(digits: &[u8]) -> u32
     value
 }
 
-/// How many digits are in front, up to the first other character (docs/NUMBERS.md).
+/// How many digits are in front, up to the first other character (docs/reference/LANGUAGE.md).
 pub fn digits_in_front(text: &[u8]) -> usize
     ensures digits { result ≡ length (take_while is_ascii_digit text.now) }
     ensures bound { result ≤ length text.now }

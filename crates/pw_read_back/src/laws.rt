@@ -23,7 +23,7 @@ ghost use Rattle.pw_compiled_deck.specs.Whole.{compiled, trees_of};
 use pw_event::laws::line_laws;
 
 /// In every run of a deck of at most 500,000 entries each number of an entry is one that a log line
-/// may tell (docs/LOG.md): unit numbers, refreshes and keys by the length of the log, restarts by
+/// may tell (docs/reference/DECK.md): unit numbers, refreshes and keys by the length of the log, restarts by
 /// MAXTMFRESTARTS, statuses and run faults by the programs, failure lines by the script.
 pub fn numbers_are_in_range()
     ensures { (system : System) (script : List FailLine) (log : List Event) → IsRunOf system script log

@@ -13,7 +13,7 @@ ghost use Rattle.pw_paired.specs.Serial.{blocks};
 ghost use Rattle.pw_paired.specs.Step.{IsRun, Legal, after};
 
 /// In every run of a deck each entry names terminals, pairs, classes, processes and files that are
-/// there, so that its line can be written (docs/LOG.md); and so does each block of the serial order.
+/// there, so that its line can be written (docs/reference/DECK.md); and so does each block of the serial order.
 pub fn naming_laws()
     ensures entry { (system : System) (script : List FailLine) (log : List Event) (entry : Event)
         → IsBehaviour (behaviour script system) → All (IsLineThere system) script

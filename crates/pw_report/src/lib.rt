@@ -1,5 +1,5 @@
 //! The serial order and the report of a world's log.
-//! docs/LOG.md has the rules.
+//! docs/reference/DECK.md has the rules.
 #![tactic(auto)]
 
 pub mod no_step;

@@ -5,7 +5,7 @@ use pw_base::bytes::Bytes;
 use pw_base::memory::Memory;
 use std::alloc::Global;
 
-/// The line that names the first entry of a log that is no step, by its number from 1 (docs/DESK.md).
+/// The line that names the first entry of a log that is no step, by its number from 1 (docs/design/ARCHITECTURE.md).
 pub fn no_step_line(alloc: Global, number: u64) -> Result<Bytes, Memory>
     ensures { IfOk result (λ text. text ≡ no_step_line number) }
 {

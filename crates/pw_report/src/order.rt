@@ -38,7 +38,7 @@ fn read<D: Disc>(
     reading.push(&entry, world.one_send(place), order)
 }
 
-/// The blocks of the serial order of a world's log (docs/LOG.md), without their numbers of answers. It
+/// The blocks of the serial order of a world's log (docs/reference/DECK.md), without their numbers of answers. It
 /// reads the log once.
 pub fn blocks<D: Disc>(alloc: Global, world: &World<D>) -> Result<Vec<Block>, Memory>
     ensures { IfOk result (λ order. order.items

@@ -35,7 +35,7 @@ fn files<D: Disc>(alloc: Global, world: &World<D>) -> Result<Vec<List<Bytes>>, M
     Ok(files)
 }
 
-/// The report of a world's log (docs/LOG.md): its serial order, the screens of each terminal and the
+/// The report of a world's log (docs/reference/DECK.md): its serial order, the screens of each terminal and the
 /// records of each file, which are those of the one-copy machine on that order, and the log.
 pub fn report<D: Disc>(alloc: Global, world: &World<D>) -> Result<Bytes, Memory>
     ensures { IfOk result (λ text. text ≡ report_text (seen D.told world.now).system

@@ -20,7 +20,7 @@ use pw_world::world::World;
 use pw_world_state::runs::run_laws;
 use std::alloc::Global;
 
-/// The report of a world's log, which is a run (docs/DESK.md).
+/// The report of a world's log, which is a run (docs/design/ARCHITECTURE.md).
 pub fn report_of<D: Disc>(alloc: Global, world: World<D>) -> Result<Bytes, Memory>
     ensures run { IsRun (sys_of (seen D.told world)) (seen D.told world).log }
     ensures text { IfOk result (λ text. text ≡ report_text (seen D.told world).system
@@ -30,7 +30,7 @@ pub fn report_of<D: Disc>(alloc: Global, world: World<D>) -> Result<Bytes, Memor
     report::report(alloc, &world)
 }
 
-/// The FILES part of the report of a world's log, which is a run (docs/DESK.md).
+/// The FILES part of the report of a world's log, which is a run (docs/design/ARCHITECTURE.md).
 pub fn files_of<D: Disc>(alloc: Global, world: World<D>) -> Result<Bytes, Memory>
     ensures run { IsRun (sys_of (seen D.told world)) (seen D.told world).log }
     ensures text { IfOk result (λ text. text ≡ files_text (seen D.told world).system

@@ -1,5 +1,5 @@
 //! The text of the report, from its parts.
-//! docs/LOG.md has the rules.
+//! docs/reference/DECK.md has the rules.
 #![tactic(auto)]
 
 pub mod laws;

@@ -28,7 +28,7 @@ pub struct ReportParts<'a> {
     pub finished: bool,
 }
 
-/// The text of a report (docs/LOG.md): of a serial order, of refreshes, each number of a terminal
+/// The text of a report (docs/reference/DECK.md): of a serial order, of refreshes, each number of a terminal
 /// counted once, of the records of each file, and of a log that is finished or not.
 pub fn report(alloc: Global, system: &System, parts: ReportParts<'_>) -> Result<Bytes, Memory>
     requires blocks { AllByRecursion (IsBlockOf system.now) parts.order.now }

@@ -1,5 +1,5 @@
 //! The source of a requester: its divisions, its data, its screens and its procedure.
-//! docs/PROGRAMS.md has the rules.
+//! docs/reference/LANGUAGE.md has the rules.
 #![tactic(auto)]
 
 pub mod read;

@@ -38,7 +38,7 @@ fn upper_names(alloc: Global, text: &[u8], tokens: &[Token]) -> Result<List<Byte
 /// It refuses exactly with the fault of the first pass that has one: the tokens, 101 to 104; the
 /// divisions, 151; the data, 111, 121, 122 and 124; the screens, 111, 122, 123 and 141 to 143; the
 /// procedure, 122 and 131 to 133. A pass gives its first fault, by line and on one line by code. The
-/// rules stand in `docs/PROGRAMS.md` and in the pages that it names.
+/// rules stand in `docs/reference/LANGUAGE.md` and in the pages that it names.
 pub fn requester(
     alloc: Global,
     name: &[u8],

@@ -1,5 +1,5 @@
 //! The screen section of a requester: its screens and their fields.
-//! docs/SCREENS.md has the rules.
+//! docs/reference/LANGUAGE.md has the rules.
 #![tactic(auto)]
 
 mod body;

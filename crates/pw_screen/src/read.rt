@@ -131,7 +131,7 @@ impl ScreenReading {
 /// table word as a name; 123 for an item that there is not; 141 for a cell outside rows 1 to 23 or
 /// columns 1 to 80; 143 for an entry of another form, for clauses that do not go together and for a
 /// field that may not stand where it is; and 142 for a field with a cell of an earlier one of its
-/// screen, where neither has another refusal. The rules stand in `docs/SCREENS.md`.
+/// screen, where neither has another refusal. The rules stand in `docs/reference/LANGUAGE.md`.
 pub fn screens(
     alloc: Global,
     text: &[u8],

@@ -253,7 +253,7 @@ fn read_line(
     }
 }
 
-/// The entries of a text whose first line has the number `first_line` (docs/DECK.md).
+/// The entries of a text whose first line has the number `first_line` (docs/reference/DECK.md).
 ///
 /// It refuses exactly with the first fault, by line and on one line by code: 195 for a line that is no
 /// entry, and 196 for the entry above `MAX_ENTRY_LINES`.

@@ -1,6 +1,6 @@
 //! The sections of a deck and its lines: where each section begins and ends, what its section line says, the lines of those that
 //! are no source, and the words, names and numbers that stand in a line.
-//! docs/DECK.md has the rules.
+//! docs/reference/DECK.md has the rules.
 #![tactic(auto)]
 
 pub mod entry;

@@ -11,7 +11,7 @@ fn without_return(line: &[u8]) -> &[u8]
 }
 
 /// The place of the first LF, from 0, and None where there is none. The first line of the text ends there
-/// (docs/DECK.md).
+/// (docs/reference/DECK.md).
 pub fn line_end(text: &[u8]) -> Option<usize>
     ensures place { result ≡ position (λ byte. byte == 10) text.now }
     ensures bound { IfSome result (λ end. end < length text.now) }

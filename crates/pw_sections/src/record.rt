@@ -113,7 +113,7 @@ fn read_line<'a>(
 }
 
 /// The records of a text whose first line has the number `first_line`, in a file whose keys have a
-/// length of 1 to 255 (docs/DECK.md).
+/// length of 1 to 255 (docs/reference/DECK.md).
 ///
 /// It refuses exactly with the first line, with 194, whose record is shorter than its key, is longer
 /// than 4,000 bytes or has a key that came before.

@@ -13,7 +13,7 @@ pub enum How {
     Left,
 }
 
-/// One block of the serial order of a log (docs/LOG.md).
+/// One block of the serial order of a log (docs/reference/DECK.md).
 #[derive(Clone, Copy, Debug, PartialEq, Eq)]
 pub enum Block {
     /// One answer of this terminal outside units.

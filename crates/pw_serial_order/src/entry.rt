@@ -30,7 +30,7 @@ pub fn terminal_in(entry: &Event) -> Option<u32>
 }
 
 /// Whether an open unit is left with this ending of its terminal: with each but Stopped and Lost
-/// (docs/LOG.md).
+/// (docs/reference/DECK.md).
 pub fn leaves(ending: Ending) -> bool
     ensures { result ≡ leaves ending }
 {

@@ -1,5 +1,5 @@
 //! The serial order of a log, entry by entry.
-//! docs/LOG.md has the rules.
+//! docs/reference/DECK.md has the rules.
 #![tactic(auto)]
 
 pub mod block;

@@ -14,7 +14,7 @@ use pw_event::event::Event;
 use std::alloc::Global;
 use std::marker::Model;
 
-/// What the serial order of a log needs of the entries so far (docs/LOG.md): of each path its length
+/// What the serial order of a log needs of the entries so far (docs/reference/DECK.md): of each path its length
 /// and where it stands, in place of the path.
 #[derive(Debug, Drop)]
 pub struct SerialOrder {

@@ -1,5 +1,5 @@
 //! The source of a server: its divisions, its data and its procedure.
-//! docs/PROGRAMS.md has the rules.
+//! docs/reference/LANGUAGE.md has the rules.
 #![tactic(auto)]
 
 pub mod read;

@@ -16,7 +16,7 @@ use std::alloc::Global;
 ///
 /// It refuses exactly with the fault of the first pass that has one: the tokens, 101 to 104; the
 /// divisions, 151; the data, 111, 121, 122 and 124; the procedure, 122, 131 to 133 and 152. A pass
-/// gives its first fault, by line and on one line by code. The rules stand in `docs/PROGRAMS.md` and in
+/// gives its first fault, by line and on one line by code. The rules stand in `docs/reference/LANGUAGE.md` and in
 /// the pages that it names.
 pub fn server(alloc: Global, name: &[u8], text: &[u8], first_line: u32) -> Result<Server, Refusal>
     requires size { length text.now ≤ longest_input }

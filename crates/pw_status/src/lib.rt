@@ -1,5 +1,5 @@
 //! STATUS and STATS: what is counted in a log, entry by entry, a watch over a log that is going on, and the status text.
-//! docs/STATUS.md has the rules.
+//! docs/guide/COMMANDS.md has the rules.
 #![tactic(auto)]
 
 pub mod attempts;

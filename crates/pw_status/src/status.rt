@@ -21,7 +21,7 @@ use pw_report::no_step::no_step_line;
 use pw_world_state::setup::Setup;
 use std::alloc::Global;
 
-/// What the first entries of a log come to (docs/STATUS.md).
+/// What the first entries of a log come to (docs/guide/COMMANDS.md).
 #[derive(Clone, Copy, Debug, PartialEq, Eq)]
 pub enum Counted {
     /// Each entry is a step.
@@ -31,8 +31,8 @@ pub enum Counted {
 }
 
 /// Counts the first `at` entries of the log of the deck of these bytes, or all where there are fewer, under
-/// the rule of the log's version (docs/STATUS.md): their status text, or the line of the first of them that
-/// is no step. Entries that are all steps keep what is promised of logs (docs/PROMISES.md). It refuses exactly
+/// the rule of the log's version (docs/guide/COMMANDS.md): their status text, or the line of the first of them that
+/// is no step. Entries that are all steps keep what is promised of logs (docs/proof/PROMISES.md). It refuses exactly
 /// with the deck's first fault.
 pub fn status(alloc: Global, bytes: &[u8], at: u32) -> Result<(Counted, Bytes), Refusal>
     ensures ok { IfOk result (λ output. IsStatusOf bytes.now at output.0 output.1) }

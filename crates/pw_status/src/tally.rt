@@ -20,7 +20,7 @@ pub struct Met {
     pub waiting: u32,
 }
 
-/// All that is counted of a log entry by entry, but for the refresh numbers (docs/STATUS.md).
+/// All that is counted of a log entry by entry, but for the refresh numbers (docs/guide/COMMANDS.md).
 #[derive(Debug, Drop)]
 pub struct Tally {
     counters: Counters,

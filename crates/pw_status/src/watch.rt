@@ -47,7 +47,7 @@ impl From<Memory> for WatchFault {
 }
 
 /// A watch over a log: its status text at any entry, by counts that each entry brings up to date
-/// (docs/STATUS.md). Contracts see the system, its failure lines and the log that was pushed.
+/// (docs/guide/COMMANDS.md). Contracts see the system, its failure lines and the log that was pushed.
 #[derive(Drop)]
 pub struct Watch {
     world: World<Tmf>,

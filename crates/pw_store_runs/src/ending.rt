@@ -7,7 +7,7 @@ use pw_trail::synced::Synced;
 use pw_volume::disk::Disk;
 use pw_workers::ending::LogEnding;
 
-/// What a run over a store comes to, with the disk and the follower as it left them (docs/STORE.md).
+/// What a run over a store comes to, with the disk and the follower as it left them (docs/guide/STORE.md).
 #[derive(Drop)]
 pub enum Stored<S: Synced, F: Follower> {
     /// It has ended so, and this is the report of its log. Each unit that has committed is on the disk, and was told.
@@ -16,7 +16,7 @@ pub enum Stored<S: Synced, F: Follower> {
     Failed(S, F),
 }
 
-/// Why a deck was not run over a store (docs/STORE.md).
+/// Why a deck was not run over a store (docs/guide/STORE.md).
 #[derive(Drop)]
 pub enum StoreFault<D: Disk> {
     /// The deck has this first fault.

@@ -26,7 +26,7 @@ use std::alloc::Global;
 use std::sync::Wait;
 use std::thread::Threads;
 
-/// Runs a setup over a trail as it is asked (docs/STORE.md): how the run ended, with the report of its log, and the disk and the
+/// Runs a setup over a trail as it is asked (docs/guide/STORE.md): how the run ended, with the report of its log, and the disk and the
 /// follower as it left them. It may wait for a thread.
 pub fn run_kept<
     S: Synced + Send,

@@ -1,6 +1,6 @@
 //! The run of a deck over a store: the deck with which it began, and a trail on a disk. The records that the trail leads to
 //! take the place of the deck's own.
-//! docs/STORE.md has the rules.
+//! docs/guide/STORE.md has the rules.
 #![tactic(auto)]
 
 pub mod asked;

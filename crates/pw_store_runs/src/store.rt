@@ -22,12 +22,12 @@ use std::alloc::Global;
 use std::sync::Wait;
 use std::thread::Threads;
 
-/// Runs the deck of these bytes over a store as it is asked (docs/STORE.md): the bytes of the deck with which it began, and
+/// Runs the deck of these bytes over a store as it is asked (docs/guide/STORE.md): the bytes of the deck with which it began, and
 /// the disk with its trail. How the run ended, with its report, and the disk and the follower as it left them. It may wait for a
 /// thread.
 ///
 /// The log is a run of the deck, by the trees of its programs, over the records of the store in place of its own, and keeps
-/// what is promised of logs (docs/PROMISES.md). The store then has a unit for each that commits in the log, behind those
+/// what is promised of logs (docs/proof/PROMISES.md). The store then has a unit for each that commits in the log, behind those
 /// from before, and so has what a crash leaves of it. The follower is told of each unit once it is settled, and by the end of
 /// all of them.
 pub fn run_stored<D: Disk, F: Follower + Send, G: Gate, R: Threads + Wait + Sync>(

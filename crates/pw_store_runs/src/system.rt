@@ -32,7 +32,7 @@ use std::marker::Brand;
 use std::sync::Wait;
 use std::thread::Threads;
 
-/// Runs a system over a store as it is asked (docs/STORE.md), whose files have the names and keys of the system's: how the run
+/// Runs a system over a store as it is asked (docs/guide/STORE.md), whose files have the names and keys of the system's: how the run
 /// ended, with its report, and the disk and the follower as it left them. The records that the trail leads to take the place of
 /// the system's. It may wait for a thread.
 pub fn run_system<D: Disk, F: Follower + Send, G: Gate, R: Threads + Wait + Sync>(

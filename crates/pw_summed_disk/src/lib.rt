@@ -1,4 +1,4 @@
-//! A disk whose pieces have sums, over another disk: damage of what it keeps is found when it is opened. docs/VOLUME.md has
+//! A disk whose pieces have sums, over another disk: damage of what it keeps is found when it is opened. docs/design/STORAGE.md has
 //! the rules.
 #![tactic(auto)]
 

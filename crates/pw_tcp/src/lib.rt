@@ -1,6 +1,6 @@
 //! A terminal's work in its control process: which step comes next for a program at its verb, and its next refresh
 //! number. By these the world finds the terminal's steps, and enters its SHOWs.
-//! docs/PAIRS.md has the rules.
+//! docs/design/ARCHITECTURE.md has the rules.
 #![tactic(auto)]
 
 pub mod laws;

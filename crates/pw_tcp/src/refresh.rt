@@ -8,7 +8,7 @@ use pw_code::context::Context;
 
 /// The next refresh number of a program at work: phase, attempt and the number of the refresh in
 /// them. Where the context's registers are those of where a path stands, it is the path's next one
-/// (docs/PAIRS.md). It takes no memory.
+/// (docs/design/ARCHITECTURE.md). It takes no memory.
 pub fn refresh(context: &Context) -> (u32, u32, u32)
     ensures number { result
         ≡ (context.now.phase, context.now.attempt, min (context.now.shown + 1) (2 ^ 32 - 1)) }

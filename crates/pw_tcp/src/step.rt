@@ -4,7 +4,7 @@ ghost use Rattle.pw_tcp.specs.NextStep.{next_step_of, is_restarting, restart_of,
 use crate::terminal::{Note, Pending, Terminal};
 use pw_code::verb::Verb;
 
-/// The next step of a terminal. Each but `Wait` is an entry of the log; docs/PAIRS.md tells when each comes.
+/// The next step of a terminal. Each but `Wait` is an entry of the log; docs/design/ARCHITECTURE.md tells when each comes.
 #[derive(Clone, Copy, Debug, PartialEq, Eq)]
 pub enum TcpStep {
     /// The screen is shown.

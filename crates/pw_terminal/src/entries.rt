@@ -93,7 +93,7 @@ fn has_value(field: &Field, name: &[u8], value: &[u8]) -> bool
     is_entry_field(name, field) && is_value_for(&field.shown, value)
 }
 
-/// Whether a field takes entries under this name, in either case. FILLER has no name (docs/SCREENS.md).
+/// Whether a field takes entries under this name, in either case. FILLER has no name (docs/reference/LANGUAGE.md).
 pub fn is_entry_field(name: &[u8], field: &Field) -> bool
     ensures { result ≡ is_entry_field name.now field.now }
 {

@@ -1,5 +1,5 @@
 //! The screen of a terminal: what is put on it, how it is printed, and which entries are right for it.
-//! docs/SCREENS.md has the rules.
+//! docs/reference/LANGUAGE.md has the rules.
 #![tactic(auto)]
 
 pub mod entries;

@@ -9,7 +9,7 @@ use std::alloc::Global;
 use std::marker::Model;
 use std::snapshot::Snapshot;
 
-/// What a terminal's screen showed (docs/SCREENS.md), kept as the lines that are printed of it: some bytes for each row that is not
+/// What a terminal's screen showed (docs/reference/LANGUAGE.md), kept as the lines that are printed of it: some bytes for each row that is not
 /// blank. Contracts see the cells.
 #[derive(Drop)]
 pub struct ShownScreen {

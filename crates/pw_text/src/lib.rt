@@ -1,5 +1,5 @@
 //! The tokens of a source text.
-//! docs/WORDS.md has the rules.
+//! docs/reference/LANGUAGE.md has the rules.
 #![tactic(auto)]
 
 mod bytes;

@@ -13,7 +13,7 @@ use pw_code::file::FileCall;
 use pw_code::unit::Unit;
 use std::alloc::Global;
 
-/// What keeps the records of files, and the units that change them under locks. docs/TMF.md has the rules.
+/// What keeps the records of files, and the units that change them under locks. docs/design/STORAGE.md has the rules.
 ///
 /// `Failed` comes only where the count of faults that is told rose, or stands at its end. Every `Err` leaves all that
 /// is told but that count.

@@ -36,7 +36,7 @@ impl Calls {
 }
 
 /// A disc that fails at calls which it is told: those of `begin`, `operate`, `commit` and `back_out` are numbered together
-/// from 1. A call that fails answers Failed and does not reach the disc inside (docs/TMF.md).
+/// from 1. A call that fails answers Failed and does not reach the disc inside (docs/design/STORAGE.md).
 #[derive(Drop)]
 pub struct Faulty<D: Disc> {
     pub inner: D,

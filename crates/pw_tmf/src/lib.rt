@@ -1,5 +1,5 @@
 //! The units of terminals, their changes of files and their locks.
-//! docs/TMF.md has the rules.
+//! docs/design/STORAGE.md has the rules.
 #![tactic(auto)]
 
 pub mod answer;

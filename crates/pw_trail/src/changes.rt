@@ -20,7 +20,7 @@ pub struct Change {
     pub bytes: Bytes,
 }
 
-/// What a unit has changed, as the trail records it. docs/TRAIL.md has the format.
+/// What a unit has changed, as the trail records it. docs/design/STORAGE.md has the format.
 #[derive(Debug, Drop)]
 pub struct UnitChanges {
     pub terminal: u32,

@@ -67,7 +67,7 @@ impl RecordGroup {
 
 impl<S: Synced> TrailLog<S> {
     /// Puts the records of a group behind the others, all by two writes and two syncs, as `append` puts one
-    /// (docs/TRAIL.md). `Failed` comes only where the disk's count of faults rose in this call or an earlier one, and from
+    /// (docs/design/STORAGE.md). `Failed` comes only where the disk's count of faults rose in this call or an earlier one, and from
     /// then on always; want of memory changes nothing.
     pub fn append_group(&mut self, group: &RecordGroup) -> Result<(), WriteFault>
         requires group { IsGroup self.old.files (units_of self.old.files group.now.bytes.items) group.now.bytes.items }

@@ -1,5 +1,5 @@
 //! The audit trail: what the units of terminals have changed, on a disk from which it is recovered after a crash.
-//! docs/TRAIL.md has the rules.
+//! docs/design/STORAGE.md has the rules.
 #![tactic(auto)]
 
 pub mod append;

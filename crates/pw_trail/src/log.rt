@@ -71,7 +71,7 @@ impl<D: Disk> TrailLog<D> {
 }
 
 impl<S: Synced> TrailLog<S> {
-    /// Puts the record of a unit behind the others, by two writes and two syncs (docs/TRAIL.md). Its
+    /// Puts the record of a unit behind the others, by two writes and two syncs (docs/design/STORAGE.md). Its
     /// changes are of the log's files (`fits`). `Failed` comes only where the disk's count of faults rose
     /// in this call or an earlier one, and from then on always; want of memory changes nothing.
     pub fn append(&mut self, alloc: Global, unit: &UnitChanges) -> Result<(), WriteFault>

@@ -6,7 +6,7 @@ ghost use Rattle.pw_volume.specs.Life.{Life, Lives, has_failed, spent};
 use crate::fault::{DiskFailed, WriteFault};
 
 /// A run of bytes that outlives a crash, as far as it was synced. `DiskFailed` and `WriteFault::Failed` come only where
-/// the count of faults rose, or stands at its end; docs/VOLUME.md has what a crash may leave.
+/// the count of faults rose, or stands at its end; docs/design/STORAGE.md has what a crash may leave.
 pub trait Disk: Send + Drop {
     /// The bytes that a read gives.
     ghost bytes: { Self → List ℕ };

@@ -1,5 +1,5 @@
 //! A disk that may crash: what a read gives now, and what a crash at this moment may leave.
-//! docs/VOLUME.md has the rules.
+//! docs/design/STORAGE.md has the rules.
 #![tactic(auto)]
 
 pub mod disk;

@@ -1,6 +1,6 @@
 //! Tables of words: the words of the language and of the commands, and the texts of the refusals.
 //! Sets of names.
-//! docs/WORDS.md has the rules.
+//! docs/reference/LANGUAGE.md has the rules.
 #![tactic(auto)]
 
 pub mod names;

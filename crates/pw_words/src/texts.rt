@@ -272,7 +272,7 @@ pub fn pathcom_words() -> Table<10>
     }
 }
 
-/// The texts of the refusals, in the order of the fault codes. docs/FAULTS.md tells of each.
+/// The texts of the refusals, in the order of the fault codes. docs/reference/DECK.md tells of each.
 pub fn refusal_texts() -> Table<35>
     ensures { result ≡ refusal_texts }
 {

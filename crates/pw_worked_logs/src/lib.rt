@@ -1,5 +1,5 @@
 //! Decks and logs that were worked out by hand, checked by computation.
-//! docs/PAIRED.md has the rules.
+//! docs/design/PROTOCOL.md has the rules.
 #![tactic(auto)]
 
 pub mod decks;

@@ -9,7 +9,7 @@ ghost use Rattle.pw_workers.specs.declared.end.RunEnd.TheVariants as ends;
 use pw_tmf::disc::Disc;
 use pw_world::world::World;
 
-/// Why the workers of a run stopped (docs/WORKERS.md).
+/// Why the workers of a run stopped (docs/design/ARCHITECTURE.md).
 #[derive(Clone, Copy, Debug, PartialEq, Eq)]
 pub enum RunEnd {
     /// The log is finished.

@@ -6,7 +6,7 @@ ghost use Rattle.pw_workers.specs.Endings.{all_regular, is_regular, status_of};
 use pw_event::event::{Ending, Event};
 use pw_input_output::status::Status;
 
-/// How the log of a run stands at its end (docs/DESK.md).
+/// How the log of a run stands at its end (docs/design/ARCHITECTURE.md).
 #[derive(Clone, Copy, Debug, PartialEq, Eq)]
 pub enum LogEnding {
     /// Every terminal has ended, each STOPPED or NOENTRIES.

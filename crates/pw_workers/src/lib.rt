@@ -1,6 +1,6 @@
 //! Workers over one locked world, each of which claims a task, runs it outside the lock and applies what came of it, or does all
 //! that in place, and how their run ends.
-//! docs/WORKERS.md has the rules.
+//! docs/design/ARCHITECTURE.md has the rules.
 #![tactic(auto)]
 
 pub mod bounds;

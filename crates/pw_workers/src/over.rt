@@ -29,7 +29,7 @@ pub enum RunEnding<D: Disc> {
     Failed(World<D>),
 }
 
-/// Runs a setup over a disc of its system within bounds (docs/DESK.md): the world of this system, script
+/// Runs a setup over a disc of its system within bounds (docs/design/ARCHITECTURE.md): the world of this system, script
 /// and limit over this disc, whose log has ended so or whose disc has failed. It may wait for a thread.
 pub fn run_over<D: Disc, G: Gate, R: Threads + Wait + Sync>(
     rt: &R,

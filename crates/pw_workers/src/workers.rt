@@ -274,7 +274,7 @@ fn run_named<D: Disc, N: Naming, G: Gate, R: Threads + Wait + Sync>(
 }
 
 /// Runs a world with so many workers until its log is finished or full, its disc has failed or memory
-/// runs out (docs/WORKERS.md), and gives it back with the cause. Each entry of its log is made under
+/// runs out (docs/design/ARCHITECTURE.md), and gives it back with the cause. Each entry of its log is made under
 /// the one lock, or by a worker that is alone. It may wait for a thread.
 pub fn run_workers<D: Disc, G: Gate, R: Threads + Wait + Sync>(
     rt: &R,

@@ -1,5 +1,5 @@
 //! The monitor at work over the whole paired system: the world, whose log is always a run.
-//! docs/WORLD.md has the rules.
+//! docs/design/ARCHITECTURE.md has the rules.
 #![tactic(auto)]
 
 mod actors;

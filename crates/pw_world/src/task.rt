@@ -10,7 +10,7 @@ use pw_machine::run::verb;
 use pw_world_model::task::{Outcome, Task};
 use std::snapshot::Snapshot;
 
-/// Runs the work of a task to its next verb (docs/WORLD.md). A task without work needs no program.
+/// Runs the work of a task to its next verb (docs/design/ARCHITECTURE.md). A task without work needs no program.
 /// For want of memory the task is spent.
 pub fn run_task(system: &System, task: Task) -> Result<Outcome, Memory>
     requires valid { IsValid system.now }

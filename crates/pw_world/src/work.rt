@@ -24,7 +24,7 @@ use pw_world_model::contexts::context_laws;
 
 impl<D: Disc> World<D> {
     /// Makes a step of an actor that is not out and may work: its program runs on here, where it stands at an answer
-    /// (docs/WORLD.md). No other actor is out any longer or shorter for it.
+    /// (docs/design/ARCHITECTURE.md). No other actor is out any longer or shorter for it.
     ///
     /// Every answer but that of a task leaves the world as it was.
     pub fn work(&mut self) -> Worked

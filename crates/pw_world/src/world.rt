@@ -18,7 +18,7 @@ use std::alloc::Global;
 use std::marker::Model;
 use std::snapshot::Snapshot;
 
-/// The paired system of a deck at work (docs/WORLD.md). Its log is a run, and what it keeps stands
+/// The paired system of a deck at work (docs/design/ARCHITECTURE.md). Its log is a run, and what it keeps stands
 /// for the state after it.
 #[derive(Drop)]
 pub struct World<D: Disc> {

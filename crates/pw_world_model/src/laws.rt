@@ -18,7 +18,7 @@ ghost use Rattle.pw_paired.specs.State.{State};
 ghost use Rattle.pw_paired.specs.Step.{after, is_finished};
 
 /// An actor has one stamp. What came of a claimed task has it as long as no entry is pushed, so such an outcome is
-/// Stale only where one was pushed since the claim (docs/WORLD.md).
+/// Stale only where one was pushed since the claim (docs/design/ARCHITECTURE.md).
 pub fn stamp_laws()
     ensures one { (sys : Behaviour) (log : List Event) (actor : Actor) (n m : ℕ)
         → IsStamp sys log actor n

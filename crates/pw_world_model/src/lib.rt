@@ -1,6 +1,6 @@
 //! The monitor's world over the whole paired system: who acts, what a world answers, what contracts
 //! see of it, and the laws by which it goes on.
-//! docs/WORLD.md has the rules.
+//! docs/design/ARCHITECTURE.md has the rules.
 #![tactic(auto)]
 
 pub mod answers;

@@ -1,6 +1,6 @@
 //! What a monitor keeps of a running system, and the state of the paired system for which that
 //! stands.
-//! docs/WORLD.md has the rules.
+//! docs/design/ARCHITECTURE.md has the rules.
 #![tactic(auto)]
 
 pub mod ends;

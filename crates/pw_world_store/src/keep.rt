@@ -20,7 +20,7 @@ use pw_tmf::disc::Disc;
 use std::alloc::Global;
 use std::marker::Model;
 
-/// What a monitor keeps of a running system (docs/WORLD.md). Contracts see the system and what is
+/// What a monitor keeps of a running system (docs/design/ARCHITECTURE.md). Contracts see the system and what is
 /// kept of it; each call but the reading ones is what one kind of entry does to that.
 #[derive(Drop)]
 pub struct Keep<D: Disc> {

@@ -1,6 +1,6 @@
 //! What a monitor keeps of a running system: of each terminal and of a server at work, contexts, tables, pairs and a disc, with a
 //! call for what each kind of entry does to it.
-//! docs/WORLD.md has the rules.
+//! docs/design/ARCHITECTURE.md has the rules.
 #![tactic(auto)]
 
 mod each;

@@ -21,7 +21,7 @@ pub struct Ready {
     pub context: Context,
 }
 
-/// What a monitor keeps of a terminal (docs/WORLD.md).
+/// What a monitor keeps of a terminal (docs/design/ARCHITECTURE.md).
 #[derive(Drop)]
 pub struct Seat {
     /// The context of its path at the last answer, none where the path is gone.

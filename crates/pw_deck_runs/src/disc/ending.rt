@@ -3,7 +3,7 @@
 use pw_disc::pair::DiscPair;
 use pw_workers::ending::LogEnding;
 
-/// How the run of a deck over a disc pair ends (docs/DISC.md).
+/// How the run of a deck over a disc pair ends (docs/design/STORAGE.md).
 #[derive(Debug, Drop)]
 pub enum PairRan {
     /// The log is finished, or as long as it may be.

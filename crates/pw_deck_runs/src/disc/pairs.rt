@@ -18,7 +18,7 @@ use std::alloc::Global;
 use std::sync::Wait;
 use std::thread::Threads;
 
-/// Runs a setup within bounds over a disc pair whose members fail by this disc script (docs/DISC.md): how
+/// Runs a setup within bounds over a disc pair whose members fail by this disc script (docs/design/STORAGE.md): how
 /// the run ended, and the report of its log, or nothing where the pair was lost. Where the script never
 /// loses the pair, it is one that lasts. It may wait for a thread.
 pub fn run_pair<G: Gate, R: Threads + Wait + Sync>(

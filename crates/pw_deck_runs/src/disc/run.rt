@@ -20,7 +20,7 @@ use std::sync::Wait;
 use std::thread::Threads;
 
 /// Runs the deck of these bytes within bounds over a disc pair whose members fail by the deck's disc
-/// script (docs/DISC.md): how the run ended, and the report of its log, or nothing where the pair was
+/// script (docs/design/STORAGE.md): how the run ended, and the report of its log, or nothing where the pair was
 /// lost. It refuses exactly with the first fault of the deck, or else of its disc script. It may wait for
 /// a thread.
 ///

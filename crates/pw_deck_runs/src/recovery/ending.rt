@@ -5,7 +5,7 @@ ghost use Rattle.pw_deck_runs.specs.recovery.Runs.{as_recovered};
 
 use pw_workers::ending::LogEnding;
 
-/// How a run over a trail has ended (docs/TRAIL.md).
+/// How a run over a trail has ended (docs/design/STORAGE.md).
 #[derive(Clone, Copy, Debug, PartialEq, Eq)]
 pub enum Recovered {
     /// Every terminal has ended, each STOPPED or NOENTRIES.

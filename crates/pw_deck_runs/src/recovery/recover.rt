@@ -30,7 +30,7 @@ use std::marker::Brand;
 use std::sync::Wait;
 use std::thread::Threads;
 
-/// Runs the deck of these bytes within bounds over a trail on a disk in memory (docs/TRAIL.md), crashes
+/// Runs the deck of these bytes within bounds over a trail on a disk in memory (docs/design/STORAGE.md), crashes
 /// the disk, opens the trail again and lists the records that it finds: how the run ended, and the list.
 /// The disk's write, cut or sync number `at` behind the first opening and each later call fail, and none
 /// where `at` is 0. It refuses exactly with the deck's first fault. It may wait for a thread.

@@ -30,7 +30,7 @@ pub fn runs_are_serializable()
         → IsSerializable sys log }
 {}
 
-/// Every run of a deck keeps what is promised of logs, whatever fails (docs/PROMISES.md).
+/// Every run of a deck keeps what is promised of logs, whatever fails (docs/proof/PROMISES.md).
 pub fn runs_keep_their_promises()
     ensures { (sys : Behaviour) → IsBehaviour sys → (log : List Event) → IsRun sys log
         → KeepsPromises sys log }
