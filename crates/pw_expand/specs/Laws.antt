@@ -8,7 +8,7 @@ use Rattle.pw_expand.specs.Printed.{expanded, world_text}
 use Rattle.pw_expand.specs.Schedule.{Schedule, schedule_of}
 
 -- A text is that of a world in which the systems of each transaction agree: where one has
--- committed it, no other has aborted it, and each of them but the home has voted for it.
+-- committed it, no other has aborted it, and each of them but the home is prepared or has committed it.
 pub record Agrees (text : List ℕ) (schedule : Schedule) : Type 0 where
   pub is : text ≡ world_text schedule.systems (net_world_after schedule.events)
   pub agree : (id : NetId) (one other : ℕ) → mark_at (net_world_after schedule.events) one id ≡ Some Committed

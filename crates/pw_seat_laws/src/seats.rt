@@ -23,8 +23,8 @@ pub fn seat_servers_keep_seats()
 {}
 
 /// The seat reservation of decks/applications/seats.deck, with any terminals that send whatever they like, any records and any
-/// failures: in every run, from any moment on, no row of SEATS is lost, and each seat that has a holder keeps it. So no seat that a
-/// committed unit has sold is sold again. It is so from the deck's records on, also in the rows that a report prints.
+/// failures: in every run, from any moment on, no row of SEATS is lost, and each seat that has a holder's
+/// name keeps that name. It is so from the deck's records on, also in the rows that a report prints.
 pub fn sold_seats_keep_their_holders()
     ensures onwards { (rule : LockRule) (choices : SeatChoices) → IsSoundDeck (seat_deck choices)
         → let sys : Behaviour = behaviour rule (seat_deck choices) in

@@ -12,7 +12,7 @@ pub record IsCallWorth (calls : WorkerCalls) : Type 0 where
   pub closed : calls.is_open ≡ false
   pub large : 4_000 ≤ calls.size
 
--- tasks are small: to hand the lock on costs more than to run one
+-- tasks are small: that others take part in them gains less than it costs
 abbrev pub AreTasksSmall : WorkerCalls → Type 0
 AreTasksSmall calls = calls.size < 1_000
 

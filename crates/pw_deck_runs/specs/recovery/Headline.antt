@@ -10,8 +10,8 @@ use Rattle.pw_report_text.specs.Meaning.{files_text}
 use Rattle.pw_deck_runs.specs.recovery.Runs.{EndsRecoveredRun}
 use Rattle.pw_deck_runs.specs.declared.recovery.ending.Recovered.{Recovered}
 
--- The deck of the bytes has no fault. A log that keeps what is promised of its logs ended so, over a trail on a disk
--- whose call number `at` and each later one fail; and the text is the FILES part of the log's report.
+-- The deck of the bytes has no fault. A log that keeps what is promised of its logs ended so, as it can over a trail whose disk
+-- fails from call number `at` on; and the text is the FILES part of the log's report.
 pub record Recovers (bytes : List ℕ) (events at : ℕ) (recovered : Recovered) (text : List ℕ) : Type 0 where
   pub deck : ParsedDeck
   pub says : deck_of bytes ≡ Ok deck

@@ -28,8 +28,8 @@ pub record AreAfter (before : List UnitChanges) (count : ℕ) (files : List File
   pub many : length units ≡ count
   pub are : records ≡ files_after files (before ++ units)
 
--- The disk has failed, whose call number `at` and each later one fail: that comes only where `at` is above 0. The log
--- goes on no more, (at - 1) / 4 units of it commit, each by four calls, and the records are those behind so many.
+-- The log is unfinished and not full, as where the disk fails from call number `at` on, which is above 0: (at - 1) / 4 units of it
+-- commit, each by four calls, and the records are those after so many.
 pub record StopsAt (at : ℕ) (files : List FileInfo) (events : ℕ) (sys : Behaviour) (log : List Event) : Type 0 where
   pub some : 0 < at
   pub unfinished : is_finished sys (after sys log) ≡ false
