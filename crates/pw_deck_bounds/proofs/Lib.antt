@@ -1,0 +1,6 @@
+mod ServerRuns
+mod Walks
+mod Turns
+mod Asking
+mod Programs
+mod Paths

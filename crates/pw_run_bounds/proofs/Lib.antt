@@ -1,0 +1,13 @@
+pub mod Sums
+pub mod Left
+pub mod Falling
+pub mod Attempts
+pub mod Known
+pub mod Wanted
+pub mod Served
+pub mod Open
+pub mod Total
+pub mod Entries
+pub mod Pairs
+pub mod Bounded
+pub mod Fair
