@@ -26,6 +26,7 @@ pub mod Queues
 pub mod RanAway
 pub mod RanOn
 pub mod Readies
+pub mod Readying
 pub mod Rooms
 pub mod SameWork
 pub mod Shapes

@@ -12,7 +12,8 @@ use Rattle.pw_world_state.specs.Changes.{with_ready}
 use Rattle.pw_world_state.specs.Kept.{Kept}
 use Rattle.pw_world_state.specs.Stands.{StandsForJob, StandsForKnown, StandsIfAny}
 use Rattle.pw_world_state.proofs.Agreeing.{there-is}
-use Rattle.pw_onecopy.proofs.Update.{upd_elim}
+use Rattle.pw_onecopy.specs.Update.{upd}
+use Rattle.pw_onecopy.proofs.Update.{upd-same, upd_elim}
 use Rattle.pw_paired.specs.State.{Job}
 use Rattle.pw_paired.specs.Terminal.{path_of}
 use Rattle.pw_actor_queue.specs.declared.actor.Actor.{Actor}
@@ -119,3 +120,34 @@ module _ (world : Seen) (books : Books) (w : IsWorld world books) (outcome : Out
       by : (o : Option Context) → work_of world outcome.actor ≡ o → Read (ran_from o outcome world.kept) a
       by None none = inl refl
       by (Some given) is = by-work given is outcome.work refl
+
+  -- an outcome of work has the context at its verb
+  given-nothing : (given : Context) (verb : Option Verb) → RanOn outcome.over.value (Some given) verb None → ⊥
+  given-nothing given None on = on
+  given-nothing given (Some verb) on = on
+
+  -- its own actor has none any more
+  pub ran-none : (given : Context) → work_of world outcome.actor ≡ Some given → work_of (ran world outcome) outcome.actor ≡ None
+  ran-none given is = from (work_of world outcome.actor) is
+    where
+      own : (a : Actor) (work : Context) → work.at_verb ≡ true → at_answer (kept_context (run_on a (Some work) world.kept) a) ≡ None
+      own (actor.Terminal t) work stands =
+          ap (λ x. at_answer (context_of x)) (upd-same world.kept.terminals t (with_ready work (world.kept.terminals t)) t refl) ∙ verb-none work stands
+      own (actor.Process c i) work stands =
+          ap (λ f. at_answer (f i)) (upd-same world.kept.jobs c (upd (world.kept.jobs c) i (Some work)) c refl)
+          ∙ (ap at_answer (upd-same (world.kept.jobs c) i (Some work) i refl) ∙ verb-none work stands)
+      own (actor.Pair p) work stands = refl
+      own (actor.Class c) work stands = refl
+
+      by : (o : Option Context) → outcome.work ≡ o → at_answer (kept_context (run_on outcome.actor o world.kept) outcome.actor) ≡ None
+      by (Some work) there = own outcome.actor work (verb-there given work is there)
+      by None there = absurd (run (record {
+        context = given;
+        work = is;
+        other = λ same. ∥∥₁_elim outcome.ran (λ a b. absurd a) (λ on.
+            given-nothing given outcome.verb (subst (λ o. RanOn outcome.over.value (Some given) outcome.verb o) there (subst (λ o. RanOn outcome.over.value o outcome.verb outcome.work) same on)));
+      }))
+
+      from : (o : Option Context) → o ≡ Some given → at_answer (kept_context (ran_from o outcome world.kept) outcome.actor) ≡ None
+      from None none = absurd (cc none)
+      from (Some other) some = by outcome.work refl

@@ -13,5 +13,6 @@ pub mod Stamps
 pub mod Tasks
 pub mod Touches
 pub mod Touching
+pub mod Unready
 pub mod Working
 pub mod Worlds

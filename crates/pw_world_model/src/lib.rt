@@ -16,4 +16,5 @@ pub mod requests;
 pub mod stepping;
 pub mod task;
 pub mod touching;
+pub mod unready;
 pub mod unrun;
