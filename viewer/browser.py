@@ -1,7 +1,7 @@
 """A headless browser that is led by its debugging pipe, so that keys, wheel and mouse are those of a user.
 
 It needs nothing but a Chromium on the PATH: messages of the DevTools protocol go over two pipes, each one a JSON text with a
-zero byte behind it. What the browser does in between (events, answers to nobody) is dropped.
+zero byte after it. What the browser does in between (events, answers to nobody) is dropped.
 """
 import base64
 import fcntl
@@ -34,7 +34,7 @@ def find():
 
 
 class Browser:
-    """One page of a browser. Use it in a `with`: the browser and its folder are gone behind it."""
+    """One page of a browser. Use it in a `with`: the browser and its folder are gone after it."""
 
     def __init__(self, width=1400, height=1000):
         self.folder = tempfile.TemporaryDirectory(prefix="viewer", ignore_cleanup_errors=True)
@@ -112,15 +112,18 @@ class Browser:
             raise RuntimeError(details.get("exception", {}).get("description", details["text"]))
         return answer["result"].get("value")
 
-    def open(self, path=HERE / "index.html"):
-        self.ask("Page.navigate", {"url": path.as_uri()})
+    def open(self, path=HERE / "index.html", fragment=""):
+        # A page that is shown already would only go to the fragment.
+        self.ask("Page.navigate", {"url": "about:blank"})
+        self.until("location.protocol === 'about:'")
+        self.ask("Page.navigate", {"url": path.as_uri() + (f"#{fragment}" if fragment else "")})
         self.until("document.readyState === 'complete' && location.protocol === 'file:'")
 
     def size(self, width, height):
         self.ask("Emulation.setDeviceMetricsOverride", {"width": width, "height": height, "deviceScaleFactor": 1, "mobile": False})
 
     def until(self, condition, seconds=120):
-        """Waits until a condition holds in the page, and behind its next picture."""
+        """Waits until a condition holds in the page, and after its next picture."""
         self.run(f"""new Promise(done => {{
             const look = () => ({condition}) ? requestAnimationFrame(() => setTimeout(done)) : setTimeout(look, 10);
             look();
@@ -145,7 +148,8 @@ class Browser:
         self.ask("DOM.setFileInputFiles", {"files": [str(pathlib.Path(path).resolve()) for path in paths], "nodeId": node})
 
     def press(self, key, modifiers=0):
-        code = CODES.get(key, ord(key.upper()[0]))
+        # Codes of other characters are those of other keys: 34 is PageDown, and not a quotation mark.
+        code = CODES.get(key, ord(key.upper()[0]) if key[0].isalnum() or key == " " else 0)
         words = {"key": key, "windowsVirtualKeyCode": code, "modifiers": modifiers}
         if len(key) == 1:
             words["text"] = key

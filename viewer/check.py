@@ -16,6 +16,7 @@ import time
 
 sys.dont_write_bytecode = True
 
+import check_looking as looking
 import check_use as use
 import sample
 from browser import Browser, NoBrowser
@@ -26,6 +27,7 @@ SKIPPED = 77
 MOST_LINES = 500
 NETWORK = r"https?:|fetch\(|XMLHttpRequest|WebSocket|@import|sendBeacon"
 LARGE, MANY, MANY_ENTRIES = 500_000, 64, 20_000
+WIDE, HIGH, NARROW = 1400, 1000, 390
 # What a picture and a step may cost. It is processor time that counts: by the clock other work of the machine holds them up.
 PICTURE_SECONDS, STEP_SECONDS = 15, 5
 # A takeover repeats the first entry of a terminal, and then the second is taken: the first KEY T1 1 gave the block.
@@ -124,9 +126,42 @@ class Session:
         use.check_zoom(user)
         use.check_keys(user)
         use.check_typed(user, {5: "F1 S-NUMBER=1 S-ITEM=BOLT S-QTY=30", 69: "SF16"})
+        looking.check_search(user, {"S-QTY=30": [5], "SF16": [69]})
         user = self.user(takeover)
-        use.check_typed(user, {5: "The next screen, T1 2.0.1, shows 24|ENTERED", 69: "no screen was shown behind it"})
-        use.check_arrows(self.user(HERE / "reports/orders.report", HERE / "reports/orders.deck"))
+        use.check_typed(user, {5: "The next screen, T1 2.0.1, shows 24|ENTERED", 69: "no screen was shown after it"})
+        self.looking()
+
+    def looking(self):
+        """What one looks for in a run in which units wait for each other."""
+        orders = HERE / "reports/orders.report"
+        user = self.user(orders, orders.with_suffix(".deck"))
+        use.check_arrows(user)
+        looking.check_side(user)
+        looking.check_waits(user, {30: "STOCK", 35: "STOCK", 55: "STOCK"})
+        looking.check_may_wait(user, "STOCK-SRV 2", 26, 30, "From 26 on the process STOCK-SRV 2 may have waited for it.", 30)
+        looking.check_several(user, ["T1", "T3"])
+        looking.check_nothing(user)
+        looking.check_reach(user, ["TCP-1", "ORDER-SRV", "STOCK-SRV"], ("process", "STOCK-SRV 2"))
+        looking.check_link(user, orders, 30)
+        self.cut_off(orders)
+        self.narrow(orders, 30)
+
+    def cut_off(self, orders):
+        """Where the log ends before an older unit does, who waits for it waits still."""
+        lines = orders.read_text().splitlines()
+        text = "".join(f"{line}\n" for line in [*lines[:next(i for i, line in enumerate(lines) if line.startswith("37 REPLY"))], "UNFINISHED"])
+        self.browser.open()
+        self.browser.run(f"input.draw({text!r}, '')")
+        self.checks.same("a log that ends in a wait", self.browser.run("page.teller.waitEnd(page.teller.waitsAt(30)[0])"), "It still waits where the log ends.")
+
+    def narrow(self, report, at):
+        """The same page in a narrow window, as on a telephone."""
+        self.browser.size(NARROW, 844)
+        deck = report.with_suffix(".deck")
+        looking.check_narrow(self.user(report, deck if deck.exists() else None), NARROW, at)
+        if self.pictures:
+            self.browser.picture((self.pictures / f"{report.stem} {NARROW}.png").resolve())
+        self.browser.size(WIDE, HIGH)
 
     def many(self, folder):
         """A run of many terminals."""
@@ -140,9 +175,12 @@ class Session:
             check(user)
         use.check_groups(user, pairs)
         use.check_filter(user, "T7", "3")
+        looking.check_reach(user, [*pairs, "ORDER-SRV", "PRICE-SRV", "STOCK-SRV"], ("process", f"STOCK-SRV {sample.PROCESSES}"))
+        looking.check_several(user, ["T7", "T64"])
         self.checks.same("tiles", self.browser.run("aid.tiles()"), user.wanted.tiles())
         order = self.browser.run("[...page.report.serial.entry]")
         self.checks.holds("each block has its entry, in order", 0 not in order and order == sorted(order))
+        self.narrow(report, len(user.wanted.entries) // 2)
 
     def large(self, folder):
         """The longest log that there may be."""
@@ -205,7 +243,7 @@ def main():
         del words[place:place + 2]
     session = None
     try:
-        with Browser() as browser:
+        with Browser(WIDE, HIGH) as browser:
             session = Session(browser, pictures)
             check(session, [pathlib.Path(word).resolve() for word in words])
     except NoBrowser as error:

@@ -265,16 +265,16 @@ def check_lists(checks, browser, wanted):
 def check_screens(checks, browser, wanted):
     """The list of screens, each on the glass, from each to its entry, and from each entry that shows it to the screen."""
     checks.same("list of screens", browser.run("aid.texts('screens').then(texts => texts.map(text => text.trim()))"), [name for name, _ in wanted.screens])
-    glass = browser.run(f"Array.from({{ length: {len(wanted.screens)} }}, (_, i) => {{ page.chooseScreen(i); return get('glass').textContent; }})")
+    glass = browser.run(f"Array.from({{ length: {len(wanted.screens)} }}, (_, i) => {{ page.side.choose(i); return get('glass').textContent; }})")
     checks.same("screens", [[row.rstrip() for row in text.split("\n")] for text in glass], [rows for _, rows in wanted.screens])
     entries = browser.run(f"""Array.from({{ length: {len(wanted.screens)} }}, (_, i) => {{
-        page.chooseScreen(i);
+        page.side.choose(i);
         get('to-entry').click();
         return get('said').textContent;
     }})""")
     checks.same("from a screen to its entry", entries, [wanted.lines[wanted.shown[name][0] - 1] for name, _ in wanted.screens])
     shows = [at for at, entry in enumerate(wanted.entries, 1) if entry.startswith("SHOW ")]
-    back = browser.run(f"{shows}.map(at => {{ page.choose(0); page.chooseScreen(0); page.choose(at); return page.report.screenName(page.shown); }})")
+    back = browser.run(f"{shows}.map(at => {{ page.choose(0); page.side.choose(0); page.choose(at); return page.report.screenName(page.side.shown); }})")
     checks.same("from an entry to its screen", back, [wanted.entries[at - 1][5:] for at in shows])
 
 

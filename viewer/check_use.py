@@ -54,7 +54,7 @@ class User:
             [['head', 'idle', 'lane'].find(kind => name.classList.contains(kind)), name.firstChild.textContent.replace(/^[▾▸ ]+/, '')])""")
 
     def settled(self):
-        """Behind a scroll idle lanes are folded when it has come to rest."""
+        """After a scroll idle lanes are folded when it has come to rest."""
         self.run("aid.settled()")
 
 
@@ -67,9 +67,9 @@ def check_labels(user):
     user.run("get('scroller').scrollLeft = 4000, aid.frame()")
     user.settled()
     user.checks.holds("one scrolls to the right", user.in_view()[0] > 200, user.in_view())
-    user.checks.same("place of the names behind a scroll", user.run(place), before)
+    user.checks.same("place of the names after a scroll", user.run(place), before)
     user.keys("0")
-    user.checks.same("place of the names behind a zoom", user.run(place), before)
+    user.checks.same("place of the names after a zoom", user.run(place), before)
     box = user.run("(() => { const box = document.querySelector('#names .name').getBoundingClientRect(); return [box.left + 20, box.top + 8]; })()")
     user.checks.holds("nothing covers a name", user.run(f"!!document.elementFromPoint({box[0]}, {box[1]}).closest('.name')"))
     user.run("get('scroller').scrollTop = 150, aid.frame()")
@@ -96,7 +96,7 @@ def check_zoom(user):
     user.focus("scroller")
     for key, wanted in (("0", least), ("1", 16), ("-", max(least, 8)), ("+", 16)):
         user.keys(key)
-        checks.same(f"zoom behind the key {key}", user.in_view()[3], wanted)
+        checks.same(f"zoom after the key {key}", user.in_view()[3], wanted)
     user.keys("0")
     left, top, wide, high = user.stage()
     under = lambda x: user.run(f"({x} - {left} + get('scroller').scrollLeft) / page.timeline.pixels")
@@ -169,10 +169,10 @@ def check_groups(user, pairs):
     first = next(iter(pairs))
     user.run("document.querySelector('#names button.head').click(), aid.frame()")
     closed = user.names()
-    checks.same("lanes behind the closing of a pair", closed, [row for row in names if row[1] not in pairs[first]])
+    checks.same("lanes after the closing of a pair", closed, [row for row in names if row[1] not in pairs[first]])
     checks.same("the closed pair says so", user.run("document.activeElement.getAttribute('aria-expanded')"), "false")
     user.keys("Enter")
-    checks.same("lanes behind the opening by Enter", user.names(), names)
+    checks.same("lanes after the opening by Enter", user.names(), names)
     last = len(user.wanted.entries)
     user.run(f"page.goTo({last})")
     user.settled()
@@ -195,10 +195,10 @@ def check_filter(user, terminal, unit):
     user.keys(*terminal.lower())
     user.settled()
     lanes = [name for kind, name in user.names() if kind == "lane" and re.match(r"T\d", name)]
-    checks.same("terminals behind the filter", lanes, [terminal])
+    checks.same("terminals after the filter", lanes, [terminal])
     blocks = [line for line in wanted.serial if line.split()[1] == terminal]
-    checks.same("serial order behind the filter", user.run("page.serial.count"), len(blocks))
-    checks.same("screens behind the filter", user.run("page.screens.count"), sum(name.split()[0] == terminal for name, _ in wanted.screens))
+    checks.same("serial order after the filter", user.run("page.serial.count"), len(blocks))
+    checks.same("screens after the filter", user.run("page.side.list.count"), sum(name.split()[0] == terminal for name, _ in wanted.screens))
     own = user.run("Array.from(page.log.items, item => page.report.entryLine(item + 1))")
     named = [line for line, entry in zip(wanted.lines, wanted.entries) if terminal in entry.split() and not re.match("RESTART|END", entry)]
     missing = sorted(set(named) - set(own))
@@ -209,7 +209,7 @@ def check_filter(user, terminal, unit):
     user.settled()
     units = user.run("Array.from(page.log.items, item => page.report.entryLine(item + 1))")
     begins = [line for line in wanted.lines if re.match(rf"\d+ BEGIN {terminal} {unit} ", line)]
-    checks.same("beginnings of the unit behind the filter", [line for line in units if " BEGIN " in line], begins)
+    checks.same("beginnings of the unit after the filter", [line for line in units if " BEGIN " in line], begins)
     first, last, _, _ = user.in_view()
     checks.holds("the unit is in view", first <= int(units[0].split()[0]) and int(units[-1].split()[0]) <= last, (first, last))
     user.keys("9")
@@ -217,7 +217,7 @@ def check_filter(user, terminal, unit):
     user.keys(*" X")
     checks.holds("a filter of no terminal is told", "no terminal" in user.run("get('filter-fault').textContent"))
     user.keys("Escape")
-    checks.same("Esc gives all again", user.run("[page.log.count, page.serial.count, page.screens.count, get('filter').value]"),
+    checks.same("Esc gives all again", user.run("[page.log.count, page.serial.count, page.side.list.count, get('filter').value]"),
                 [len(wanted.entries), len(wanted.serial), len(wanted.screens), ""])
     user.run(f"aid.label('terminal', '{terminal}').click()")
     checks.same("the name of a terminal filters by it", user.run("get('filter').value"), terminal)
@@ -283,11 +283,11 @@ def check_keys(user):
     lines, count = wanted.lines, len(wanted.lines)
     user.run("page.choose(0), document.querySelector('#give summary').focus()")
     path = []
-    for _ in range(22):
+    for _ in range(36):
         user.keys("Tab")
         path.append(user.focused())
-    parts = ["zoom-out", "zoom-in", "zoom-whole", "zoom-near", "filter", "fold", "name head", "name lane", "scroller", "log", "hide-out",
-             "serial", "to-entry", "screens"]
+    parts = ["zoom-out", "zoom-in", "zoom-whole", "zoom-near", "search", "filter", "fold", "name head", "name lane", "scroller", "to-entry",
+             "screens", "log", "hide-out", "serial"]
     places = [path.index(part) if part in path else -1 for part in parts]
     checks.holds("Tab leads to each part in order", -1 not in places and places == sorted(places), dict(zip(parts, places)))
     user.focus("scroller")
@@ -323,7 +323,7 @@ def check_keys(user):
 def check_looks(user):
     """No two looks of entries have one shape, and no two outcomes one pattern; and their colours differ for the colour-blind."""
     looks = user.run("LOOKS.map(look => ({ name: look.name, colour: look.colour, shape: look.shape }))")
-    outcomes = user.run("OUTCOMES.map(outcome => ({ name: outcome.name, colour: outcome.colour, shape: outcome.pattern }))")
+    outcomes = user.run("[...OUTCOMES, ...WAITS].map(outcome => ({ name: outcome.name, colour: outcome.colour, shape: outcome.pattern }))")
     for what, items in (("looks", looks), ("outcomes", outcomes)):
         user.checks.same(f"shapes of the {what}", len({item["shape"] for item in items}), len(items))
         for i, one in enumerate(items):

@@ -30,7 +30,7 @@ class Deck {
     return kind.toUpperCase() === 'PATHCOM' ? row => this.command(row.trim().toUpperCase().split(/ +/)) : () => {};
   }
 
-  // SET TERM TCP holds for the terminals that are added behind it.
+  // SET TERM TCP holds for the terminals that are added after it.
   command(words) {
     if (words.slice(0, 3).join(' ') === 'SET TERM TCP') [, , , this.pair = ''] = words;
     if (words[0] === 'ADD' && words[1] === 'TERM' && words.length > 2) this.pairs.set(words[2], this.pair);

@@ -3,6 +3,7 @@
 
 const RULER_HIGH = 24;
 const SHAPED = 5;          // from so many pixels an entry on, entries are shapes; below they are ticks
+const SMALLEST = 3;        // half of a shape's height at least
 const NARROW = 4;          // a bar of fewer pixels has no edges and no pattern
 const BESIDE = 7;          // how far from the middle of an entry an arrow begins or ends
 const RULER_GAP = 80;
@@ -28,6 +29,7 @@ class Drawing {
     this.pen.clip();
     this.pen.translate(0, RULER_HIGH - view.top);
     this.drawRows();
+    this.drawFound();
     this.drawBars();
     this.drawLines();
     this.drawArrows();
@@ -72,6 +74,21 @@ class Drawing {
       this.pen.fillRect(Math.floor(x), RULER_HIGH - 5, 1, 5);
     }
     this.pen.textAlign = 'left';
+    this.drawFoundMarks();
+  }
+
+  // In the ruler a triangle stands at each entry that was found.
+  drawFoundMarks() {
+    const { found } = this.view;
+    this.pen.fillStyle = FOUND;
+    for (let i = firstNotBelow(found, this.first), last = -9; i < found.length && found[i] <= this.last; i += 1) {
+      const x = this.middleOf(found[i]);
+      if (x - last < 2) continue;
+      last = x;
+      this.pen.beginPath();
+      for (const [right, down] of [[-4, -8], [4, -8], [0, -1]]) this.pen.lineTo(x + right, RULER_HIGH + down);
+      this.pen.fill();
+    }
   }
 
   drawRows() {
@@ -84,14 +101,50 @@ class Drawing {
   }
 
   drawBars() {
-    const { of: own } = this.view.report.attempts;
-    for (const row of this.rowsInView()) for (const lane of row.lanes) if (lane !== NONE) this.drawLaneBars(row, own.of(lane));
+    const { attempts, waits } = this.view.report;
+    for (const row of this.rowsInView()) for (const lane of row.lanes) if (lane !== NONE) {
+      this.drawLaneBars(row, attempts.of.of(lane));
+      this.drawWaits(row, waits.of.of(lane));
+    }
+  }
+
+  // The waits of a lane: a bar with the holder and the file where there is room, lower than that of an attempt.
+  drawWaits(row, own) {
+    const { report } = this.view, { waits } = report;
+    for (let i = firstBehind(waits.to, own, this.first); i < own.length; i += 1) {
+      const wait = own[i] - 1, left = Math.max(this.leftOf(waits.from[wait]) + this.view.pixels, -9);
+      if (waits.from[wait] > this.last) break;
+      const wide = Math.min(this.leftOf(waits.to[wait] + 1), this.view.wide + 9) - left;
+      if (wide <= 0 || !this.isKept(waits.entry[wait])) continue;
+      const look = WAITS[waits.look[wait]], high = Math.round(row.high * 0.45), top = row.top + 2;
+      if (wide < NARROW) paintThinBar(this.pen, look, left, top, Math.max(1, wide), high);
+      else paintBar(this.pen, look, left, top, wide, high);
+      if (row.kind === 'lane' || !row.isClosed) this.writeIn(waitLabel(report, wait), report.laneName(waits.holder[wait]), Math.max(left, 0), wide + Math.min(left, 0), row);
+    }
+  }
+
+  // A text in a bar, or a shorter one, or none, as there is room.
+  writeIn(whole, short, left, wide, row) {
+    this.pen.font = `600 ${row.high < LANE_HIGH ? 9 : 10}px system-ui, sans-serif`;
+    const text = this.pen.measureText(whole).width + 8 <= wide ? whole : short;
+    if (this.pen.measureText(text).width + 6 > wide) return;
+    this.pen.fillStyle = '#1d2733';
+    this.pen.fillText(text, left + 4, row.top + (row.high < LANE_HIGH ? 11 : 13));
+  }
+
+  // The columns of what the search has found.
+  drawFound() {
+    const { found, rows } = this.view, wide = Math.max(2, this.view.pixels);
+    this.pen.fillStyle = FOUND_GROUND;
+    for (let i = firstNotBelow(found, this.first); i < found.length && found[i] <= this.last; i += 1) {
+      this.pen.fillRect(this.middleOf(found[i]) - wide / 2, 0, wide, rows.height);
+    }
   }
 
   // A bar of a few pixels is only a colour in its columns, and such columns are painted together.
   drawLaneBars(row, own) {
     const { attempts } = this.view.report, columns = new Uint8Array(Math.ceil(this.view.wide) + 1);
-    for (let i = firstAttemptBehind(attempts, own, this.first); i < own.length; i += 1) {
+    for (let i = firstBehind(attempts.to, own, this.first); i < own.length; i += 1) {
       const attempt = own[i] - 1, from = attempts.from[attempt];
       if (from > this.last) break;
       if (!this.isKept(from)) continue;
@@ -111,12 +164,8 @@ class Drawing {
   // The number of a unit stands where its bar comes into view.
   drawUnit(row, attempt, left, wide) {
     const { unit, restarts } = this.view.report.attempts;
-    const number = String(unit[attempt]), whole = `unit ${number}${restarts[attempt] ? `, try ${restarts[attempt] + 1}` : ''}`;
-    this.pen.font = `600 ${row.high < LANE_HIGH ? 9 : 10}px system-ui, sans-serif`;
-    const text = this.pen.measureText(whole).width + 8 <= wide ? whole : number;
-    if (this.pen.measureText(text).width + 6 > wide) return;
-    this.pen.fillStyle = '#1d2733';
-    this.pen.fillText(text, left + 4, row.top + (row.high < LANE_HIGH ? 11 : 13));
+    const number = String(unit[attempt]);
+    this.writeIn(`unit ${number}${restarts[attempt] ? `, try ${restarts[attempt] + 1}` : ''}`, number, left, wide, row);
   }
 
   // Failures and takeovers cut through all lanes.
@@ -141,7 +190,7 @@ class Drawing {
     for (let at = this.first; at <= this.last; at += 1) {
       const row = this.view.rows.of(log.lane[at - 1]);
       this.pen.globalAlpha = this.isKept(at) ? 1 : 0.15;
-      paintShape(this.pen, LOOKS[log.look[at - 1]], this.middleOf(at), markHeight(row), Math.min(5.5, this.view.pixels * 0.36, row.high / 5.5));
+      paintShape(this.pen, LOOKS[log.look[at - 1]], this.middleOf(at), markHeight(row), Math.min(5.5, Math.max(SMALLEST, this.view.pixels * 0.36), row.high / 5.5));
     }
     this.pen.globalAlpha = 1;
   }

@@ -1,5 +1,5 @@
 'use strict';
-// The files behind the run, and before it where the deck tells, each record on a line of a virtual list.
+// The files after the run, and before it where the deck tells, each record on a line of a virtual list.
 
 function showFiles(element, report, deck) {
   element.replaceChildren(...report.files.map(file => {

@@ -36,6 +36,13 @@ const OUTCOMES = [
   { name: 'LEFT', colour: '#d55e00', pattern: 'crossed', says: 'unit left open' },
   { name: 'RUNS', colour: '#97a3b0', pattern: 'dotted', says: 'unit still runs' },
 ];
+// A wait for a lock: one that the log tells, and one that may have been.
+const WAITS = [
+  { name: 'WAIT', colour: '#8a5a00', pattern: 'falling', pale: 0.3, says: 'waits for an older unit' },
+  { name: 'MAYBE', colour: '#7a3f9d', pattern: 'spotted', pale: 0.4, says: 'may have waited for a lock' },
+];
+const WAIT = Object.fromEntries(WAITS.map((wait, index) => [wait.name, index]));
+
 const OUTCOME = Object.fromEntries(OUTCOMES.map((outcome, index) => [outcome.name, index]));
 
 // `place` says whose lane it is: that of a terminal, of a pair, or of a process, which is a class and a number. `number` is

@@ -5,7 +5,7 @@ const HEAD_HIGH = 32, LANE_HIGH = 32, CROWDED_HIGH = 24, CLASS_HIGH = 20, IDLE_H
 const CROWDED = 16;
 
 // The pair of each terminal, by lanes; NONE where it cannot be told. The deck says it. Without a deck the log tells it as far
-// as this: a terminal is copied to a new backup behind a RAISE of its pair that is newer than its last copy, and takes a step
+// as this: a terminal is copied to a new backup after a RAISE of its pair that is newer than its last copy, and takes a step
 // only where it was copied since the last RAISE of its pair and since the last failure of a member.
 class PairFinder {
   constructor(report, deck) {
@@ -13,7 +13,7 @@ class PairFinder {
     this.deck = deck;
     this.pairs = report.lanes.all.flatMap((lane, number) => (lane.place === 'pair' ? [number] : []));
     this.possible = report.lanes.all.map(lane => (lane.place === 'terminal' ? this.startOf(lane.name) : []));
-    this.raised = new Uint32Array(report.lanes.all.length);      // the RAISE of a pair behind which no member failed, or 0
+    this.raised = new Uint32Array(report.lanes.all.length);      // the RAISE of a pair after which no member failed, or 0
     this.changed = new Uint32Array(report.lanes.all.length);     // the last RAISE or failure of a pair
     this.copied = new Uint32Array(report.lanes.all.length);
   }
@@ -81,7 +81,7 @@ function groupsOf(report, pairOf) {
   return [...groups.values()];
 }
 
-// The rows from above. Each group has a head; behind it stand its lanes, or nothing where the group is closed, and then the
+// The rows from above. Each group has a head; after it stand its lanes, or nothing where the group is closed, and then the
 // head shows what they do. Idle lanes beside each other are one low row.
 class Rows {
   constructor(report, groups, { closed, isIdle }) {

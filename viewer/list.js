@@ -5,8 +5,10 @@ const LINE_HIGH = 21;
 const SPARE = 8;           // lines above and below the view that are in the page too
 
 class VirtualList {
-  // `fill` writes an item into a line; `choose` is told the item that a user takes; `open` the one on which Enter is pressed.
-  constructor(element, { fill, choose = () => {}, open = () => {} }) {
+  // `fill` writes an item into a line; `choose` is told the item that a user takes; `open` the one on which Enter is pressed;
+  // and `empty` is what it says without items.
+  constructor(element, { fill, choose = () => {}, open = () => {}, empty = 'nothing' }) {
+    this.empty = empty;
     this.element = element;
     this.fill = fill;
     this.tellChosen = choose;
@@ -69,6 +71,7 @@ class VirtualList {
     const lines = [];
     for (let place = first; place < end; place += 1) lines.push(this.line(place));
     this.extent.replaceChildren(...lines);
+    if (!this.count) this.extent.append(Object.assign(document.createElement('p'), { className: 'empty', textContent: this.empty }));
     const chosen = this.place >= first && this.place < end ? `${this.element.id}-${this.place}` : '';
     if (chosen) this.element.setAttribute('aria-activedescendant', chosen); else this.element.removeAttribute('aria-activedescendant');
   }

@@ -37,6 +37,8 @@ const TILES = {
   rising: [[-2, 2, 2, -2], [0, 8, 8, 0], [6, 10, 10, 6]],
   crossed: [[0, 8, 8, 0], [0, 0, 8, 8]],
   dotted: [[1, 2, 3, 2], [5, 6, 7, 6]],
+  falling: [[-2, 6, 2, 10], [0, 0, 8, 8], [6, -2, 10, 2]],
+  spotted: [[1.5, 1.5, 3, 3], [5.5, 5.5, 7, 7]],
 };
 
 // What fills a bar: a pale ground, and the strokes of the outcome's pattern.
@@ -46,7 +48,7 @@ function barFill(pen, outcome) {
   return barFills.get(outcome.name);
 }
 
-function paintTile({ colour, pattern }) {
+function paintTile({ colour, pattern, pale = 0.55 }) {
   const tile = document.createElement('canvas');
   tile.width = 8;
   tile.height = 8;
@@ -56,7 +58,7 @@ function paintTile({ colour, pattern }) {
   pen.globalAlpha = 0.2;
   pen.fillStyle = colour;
   pen.fillRect(0, 0, 8, 8);
-  pen.globalAlpha = 0.55;
+  pen.globalAlpha = pale;
   pen.strokeStyle = colour;
   for (const [fromX, fromY, toX, toY] of TILES[pattern]) {
     pen.beginPath();
@@ -85,6 +87,7 @@ function paintThinBar(pen, outcome, x, y, wide, high) {
 }
 
 const ARROW = '#8a5a00';
+const FOUND = '#7a0099', FOUND_GROUND = 'rgba(240, 228, 66, 0.5)';
 
 // An arrow that swings to the right of the line between its ends.
 function paintArrow(pen, fromX, fromY, toX, toY) {

@@ -1,6 +1,8 @@
 'use strict';
 // The names of the lanes beside the timeline, a line for each of its rows. They stay in view, whatever is scrolled.
 
+const NARROW_WINDOW = window.matchMedia('(max-width: 700px)');
+
 class LaneNames {
   // `toggle` is told the group whose head is pressed, and `filter` the terminal whose name is pressed.
   constructor(element, { toggle, filter }) {
@@ -16,10 +18,19 @@ class LaneNames {
     this.lines.replaceChildren(...rows.list.map(row => {
       const line = row.kind === 'head' ? this.head(row) : row.kind === 'idle' ? this.idle(row) : this.lane(row);
       line.classList.add('name', row.kind);
+      line.classList.toggle('low', row.high < HEAD_HIGH);
       line.style.top = `${row.top}px`;
       line.style.height = `${row.high}px`;
       return line;
     }));
+  }
+
+  // How wide the names of some groups are: the lines that are written with most letters are measured.
+  wideFor(report, groups) {
+    const pen = document.createElement('canvas').getContext('2d'), wide = (font, text) => { pen.font = font; return pen.measureText(text).width; };
+    const heads = groups.map(group => wide('600 13px system-ui, sans-serif', `▾ ${group.name}`) + (NARROW_WINDOW.matches ? 18 : 24 + wide('11px system-ui, sans-serif', countOf(group))));
+    const lanes = groups.flatMap(group => group.lanes.map(lane => 36 + wide('13px system-ui, sans-serif', report.laneName(lane))));
+    return Math.ceil(Math.max(NARROW_WINDOW.matches ? 84 : 150, ...heads, ...lanes));
   }
 
   scrollTo(top) { this.lines.style.transform = `translateY(${-top}px)`; }
@@ -55,7 +66,8 @@ class LaneNames {
 
   idle({ lanes }) {
     const line = document.createElement('span'), names = lanes.map(lane => this.report.laneName(lane)), last = names[names.length - 1];
-    line.textContent = names.length === 1 ? `${names[0]} idle` : `${names.length} idle: ${names[0]} .. ${last.split(' ').pop()}`;
+    const range = NARROW_WINDOW.matches ? '' : `: ${names[0]} .. ${last.split(' ').pop()}`;
+    line.textContent = names.length === 1 ? `${names[0]} idle` : `${names.length} idle${range}`;
     line.title = names.join(', ');
     return line;
   }

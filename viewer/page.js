@@ -2,6 +2,7 @@
 // The page: takes a report and a deck, shows the parts, and leads from one to the other.
 
 const get = id => document.getElementById(id);
+const NOTHING_LEFT = 'The filter leaves nothing here.';
 const MOST_PASTED = 200000;    // characters of a report that are put into the text box; a longer one would hold it up
 
 function makeElement(tag, className, text = '') {
@@ -11,7 +12,7 @@ function makeElement(tag, className, text = '') {
   return element;
 }
 
-// A button with a look's shape beside its words.
+// A look's shape, to stand beside its words.
 function shapeOf(look) {
   const canvas = document.createElement('canvas');
   canvas.width = 16;
@@ -34,26 +35,36 @@ class Page {
   constructor() {
     this.report = null;
     this.timeline = new Timeline(
-      { box: get('box'), names: get('names'), scroller: get('scroller'), extent: get('extent'), canvas: get('canvas'), tip: get('tip'), zoom: get('zoom') },
+      Object.fromEntries(['box', 'names', 'scroller', 'extent', 'canvas', 'tip', 'zoom', 'minimap'].map(name => [name, get(name)])),
       { choose: at => this.choose(at), open: at => this.follow(at), filter: name => this.filterBy(name === get('filter').value ? '' : name) },
     );
     this.log = new VirtualList(get('log'), {
       fill: (item, line) => this.fillEntry(item + 1, line),
       choose: item => this.choose(item + 1),
       open: item => this.enter(item + 1),
+      empty: NOTHING_LEFT,
     });
     this.serial = new VirtualList(get('serial'), {
       fill: (item, line) => this.fillBlock(item, line),
       choose: item => this.choose(this.report.serial.entry[item]),
       open: item => this.enter(this.report.serial.entry[item]),
+      empty: NOTHING_LEFT,
     });
-    this.screens = new VirtualList(get('screens'), {
-      fill: (item, line) => this.fillScreen(item, line),
-      choose: item => this.showScreen(item),
-      open: item => this.enter(this.report.screens.entry[item]),
-    });
+    this.side = new Side(
+      { side: get('side'), list: get('screens'), glass: get('glass'), name: get('glass-name'), button: get('to-entry'), others: get('others') },
+      { enter: at => this.enter(at) },
+    );
+    this.search = new SearchBox(
+      { input: get('search'), count: get('search-count'), last: get('search-last'), next: get('search-next') },
+      { show: found => this.showFound(found), go: at => this.goTo(at) },
+    );
+    this.link = new EntryLink(get('link'), { go: at => this.goToNamed(at) });
+    this.chooser = new Chooser(get('chooser'), { choose: names => this.filterBy(names.join(', ')) });
+    this.jumps = new Toolbar(get('jumps'));
+    this.groups = new Toolbar(get('groups'));
     this.drawLegend();
     this.listen();
+    if (this.link.named()) get('verdict').textContent = `No report yet: this link leads to entry ${this.link.named()} of the one that is given`;
   }
 
   listen() {
@@ -64,15 +75,13 @@ class Page {
     get('fold').addEventListener('change', event => this.timeline.setFolding(event.target.checked));
     get('hide-out').addEventListener('change', () => this.listBlocks());
     get('filter').addEventListener('input', event => this.filterBy(event.target.value));
-    get('jumps').addEventListener('keydown', event => this.moveAlong(event));
-    get('to-entry').addEventListener('click', () => this.enter(this.report.screens.entry[this.shown]));
     document.addEventListener('keydown', event => this.onKey(event));
   }
 
   // ---- a report
 
   draw(text, deckText) {
-    const verdict = get('verdict');
+    const verdict = get('verdict'), named = this.report ? 0 : this.link.named();
     try {
       this.show(new Report(text), deckText ? new Deck(deckText) : null);
       verdict.textContent = `${this.report.finished ? 'Finished' : 'Not finished'} after ${this.report.log.count} entries`;
@@ -84,25 +93,36 @@ class Page {
     }
     get('picture').hidden = verdict.className === 'bad';
     get('give').open = verdict.className === 'bad';
-    if (verdict.className === '') this.timeline.onResize();
+    if (verdict.className !== '') return;
+    this.timeline.onResize();
+    if (named) this.goToNamed(named);
   }
 
   show(report, deck) {
     this.pairOf = new PairFinder(report, deck).find();
     report.attempts = new Walk(report, this.pairOf).follow();
+    report.waits = new WaitFinder(report).find();
     this.report = report;
     this.teller = new Teller(report, deck);
     this.keep = null;
+    this.parts = [];
     this.chosen = 0;
+    this.search.clear();
+    this.link.mark(0);
     get('picture').hidden = false;
     get('filter').value = '';
     get('filter-fault').textContent = '';
     this.drawTiles();
     this.drawJumps();
     this.offerNames();
+    const groups = groupsOf(report, this.pairOf);
+    this.chooser.show(report, groups);
+    this.drawGroups(groups);
     this.timeline.folds = report.lanes.all.length > CROWDED;
     get('fold').checked = this.timeline.folds;
-    this.timeline.show(report, groupsOf(report, this.pairOf));
+    this.timeline.show(report, groups);
+    this.search.use(new Finder(report, deck), null);
+    this.side.show(report);
     this.tell(0);
     this.list();
     showFiles(get('files'), report, deck);
@@ -128,31 +148,31 @@ class Page {
   drawJumps() {
     const marked = this.report.entriesWith([LOOK.fail, LOOK.takeover, LOOK.odd]);
     if (!marked.length) get('jumps').textContent = 'No failure, and each terminal that ended ended well.';
-    else get('jumps').replaceChildren(...Array.from(marked, (at, i) => {
+    else this.jumps.show(Array.from(marked, at => {
       const button = makeElement('button', '');
       button.append(shapeOf(LOOKS[this.report.log.look[at - 1]]), this.report.entryLine(at));
       button.dataset.at = at;
-      button.tabIndex = i ? -1 : 0;
       button.addEventListener('click', () => this.goTo(at));
       return button;
     }));
   }
 
-  // In the row of buttons the arrow keys go from one to the next.
-  moveAlong(event) {
-    const buttons = [...get('jumps').querySelectorAll('button')], place = buttons.indexOf(event.target), last = buttons.length - 1;
-    const next = { ArrowRight: Math.min(last, place + 1), ArrowLeft: Math.max(0, place - 1), Home: 0, End: last }[event.key];
-    if (place < 0 || next === undefined) return;
-    event.preventDefault();
-    buttons[place].tabIndex = -1;
-    buttons[next].tabIndex = 0;
-    buttons[next].focus();
+  // A button for each pair and class, which brings its lanes into view.
+  drawGroups(groups) {
+    get('groups').hidden = groups.length < 2;
+    this.groups.show(groups.map(group => {
+      const button = makeElement('button', '', group.name);
+      button.title = `to the lanes of ${group.name}`;
+      button.addEventListener('click', () => this.timeline.reach(group));
+      return button;
+    }));
+    get('groups').prepend(makeElement('span', '', 'Lanes of'));
   }
 
-  // The filter offers the names of the terminals.
+  // The filter offers the names of the terminals, pairs and classes.
   offerNames() {
-    const names = this.report.lanes.all.filter(lane => lane.place === 'terminal').map(lane => lane.name);
-    get('filter-names').replaceChildren(...names.map(name => Object.assign(document.createElement('option'), { value: name })));
+    const names = new Set(this.report.lanes.all.map(lane => lane.name.split(' ')[0]));
+    get('filter-names').replaceChildren(...Array.from(names, name => Object.assign(document.createElement('option'), { value: name })));
   }
 
   drawLegend() {
@@ -161,7 +181,7 @@ class Page {
       span.append(picture, says);
       return span;
     };
-    get('legend').append(...LOOKS.map(look => item(shapeOf(look), look.says)), ...OUTCOMES.map(outcome => item(patternOf(outcome), outcome.says)));
+    get('legend').append(...LOOKS.map(look => item(shapeOf(look), look.says)), ...[...OUTCOMES, ...WAITS].map(bar => item(patternOf(bar), bar.says)));
   }
 
   // ---- lists
@@ -169,10 +189,9 @@ class Page {
   list() {
     const { report: { log, screens }, keep } = this;
     this.log.show(log.count, keep && keptNumbers(log.count, i => keep[i]));
-    this.screens.show(screens.count, keep && keptNumbers(screens.count, i => keep[screens.entry[i] - 1]));
     this.listBlocks();
-    if (this.screens.count) this.screens.mark(this.screens.itemAt(0));
-    this.showScreen(this.screens.count ? this.screens.itemAt(0) : -1);
+    const terminals = new Set(this.parts.map(part => part.terminal).filter(terminal => terminal !== NONE));
+    this.side.listKept(keep && keptNumbers(screens.count, i => keep[screens.entry[i] - 1]), [...terminals]);
   }
 
   listBlocks() {
@@ -189,6 +208,7 @@ class Page {
   fillEntry(at, line) {
     line.textContent = this.report.entryLine(at);
     if (this.report.log.look[at - 1] >= LOOK.odd) line.classList.add('odd');
+    if (this.timeline.isFound(at)) line.classList.add('found');
   }
 
   fillBlock(block, line) {
@@ -196,12 +216,6 @@ class Page {
     line.textContent = this.report.blockLine(block);
     if (how in OUTCOME) line.classList.add(how);
     if (how === 'DONE' && !ENDS_WELL.test(this.report.blockLine(block).split(' ')[2])) line.classList.add('odd');
-  }
-
-  // A screen's line has its message beside the name, since most screens of a terminal differ in it.
-  fillScreen(screen, line) {
-    line.textContent = `${this.report.screenName(screen)}  `;
-    line.append(makeElement('small', '', this.report.screenRows(screen)[23].trim()));
   }
 
   // ---- from one to the other
@@ -212,11 +226,24 @@ class Page {
     this.timeline.mark(at, isFar);
     this.log.mark(at - 1);
     this.tell(at);
-    const screen = at ? this.report.log.screen[at - 1] : 0;
-    if (screen) this.chooseScreen(screen - 1);
+    this.side.showAt(at);
+    this.search.mark(at);
+    this.link.mark(at);
   }
 
   goTo(at) { if (at) this.choose(at, true); }
+
+  // Goes to the entry that the address names.
+  goToNamed(at) {
+    if (!this.report || !at) return;
+    if (at <= this.report.log.count) this.goTo(at);
+    else get('said').textContent = `This report has no entry ${at}: its last one is ${this.report.log.count}.`;
+  }
+
+  showFound(found) {
+    this.timeline.setFound(found);
+    this.log.draw();
+  }
 
   // Goes to an entry, and from there by the keys of the timeline.
   enter(at) {
@@ -226,7 +253,7 @@ class Page {
 
   tell(at) {
     get('said').textContent = at ? this.report.entryLine(at) : 'Choose an entry to read what it means.';
-    get('meaning').textContent = at ? `${this.teller.meaning(at)} ${this.teller.place(at)}` : '';
+    get('meaning').textContent = at ? [this.teller.meaning(at), this.teller.wait(at), this.teller.place(at)].join(' ') : '';
     get('typed').textContent = at ? this.teller.typed(at) : '';
     get('ways').replaceChildren(...(at ? this.teller.ways(at) : []).map(way => {
       const button = makeElement('button', '', way.says);
@@ -238,7 +265,7 @@ class Page {
   take({ entry, screen }) {
     if (entry) this.goTo(entry);
     else {
-      this.chooseScreen(screen);
+      this.side.choose(screen);
       get('screens').focus();
     }
   }
@@ -249,33 +276,29 @@ class Page {
     if (way) this.take(way);
   }
 
-  chooseScreen(screen) {
-    this.screens.mark(screen);
-    this.showScreen(screen);
-  }
-
-  showScreen(screen) {
-    const { screens } = this.report, button = get('to-entry');
-    this.shown = screen;
-    get('glass').textContent = screen < 0 ? '' : this.report.screenRows(screen).map(row => row.padEnd(80)).join('\n');
-    button.hidden = screen < 0 || !screens.entry[screen];
-    if (!button.hidden) button.textContent = `${this.report.screenName(screen)}: to its entry ${screens.entry[screen]}`;
-  }
-
   // ---- filter and keys
 
   filterBy(text) {
     if (get('filter').value !== text) get('filter').value = text;
-    const { parts, unknown } = readFilter(text, this.report);
-    get('filter-fault').textContent = unknown ? `no terminal or unit ${unknown}` : '';
+    const { parts, unknown } = readFilter(text, this.report, this.pairOf);
+    get('filter-fault').textContent = unknown ? `no terminal, unit, pair or class ${unknown} in this run` : this.missing(parts);
     if (unknown) return;
     this.parts = parts;
-    this.keep = keptBy(parts, this.report, this.pairOf);
+    this.keep = keptBy(parts, this.report);
+    this.chooser.mark(new Set(parts.filter(part => part.terminal !== NONE).map(part => this.report.laneName(part.terminal))));
     this.timeline.setFilter(this.keep);
     this.bringKept();
     if (this.keep && this.chosen && !this.keep[this.chosen - 1]) this.choose(0);
     this.list();
+    this.search.use(this.search.finder, this.keep);
+    this.search.mark(this.chosen);
     this.log.mark(this.chosen - 1);
+  }
+
+  // What a filter names and the run does not have, and whether nothing is left.
+  missing(parts) {
+    const missing = missingParts(parts, this.report), isAll = missing.length > 0 && missing.length === parts.length;
+    return missing.length ? `${missing.join(', ')}${isAll ? ': nothing is left' : ''}` : '';
   }
 
   // A filter by units brings these into view; one by terminals the whole run where nothing of theirs is in view.
@@ -289,9 +312,15 @@ class Page {
   onKey(event) {
     if (!this.report || event.ctrlKey || event.altKey || event.metaKey) return;
     const isTyping = /^(?:INPUT|TEXTAREA)$/.test(event.target.tagName) && event.target.type !== 'checkbox';
-    if (event.key === '/' && !isTyping) {
+    const box = isTyping ? undefined : { '/': 'filter', f: 'search' }[event.key];
+    if (box) {
       event.preventDefault();
-      get('filter').focus();
+      get(box).focus();
+      get(box).select();
+    } else if (event.key === 'Escape' && event.target === get('search')) {
+      this.search.clear();
+      this.showFound(this.search.found);
+      get('scroller').focus();
     } else if (event.key === 'Escape' && get('filter').value !== '') {
       this.filterBy('');
       get('scroller').focus();

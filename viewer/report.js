@@ -106,6 +106,7 @@ class ReportReader {
   readScreens() {
     const screen = wholeLine(`SCREEN (${NAME}) (${REFRESH})`), row = /^(?:0[1-9]|1[0-9]|2[0-4])\|.{1,80}$/;
     const line = [], terminal = [], byName = new Map();
+    let columns = 0;
     this.eachLine('FILES', text => {
       const words = screen.exec(text);
       if (words) {
@@ -113,10 +114,11 @@ class ReportReader {
         line.push(this.at);
         terminal.push(this.laneOf('terminal', words[1]));
       } else if (!line.length || !row.test(text)) this.refuse('a screen or a row of one, or FILES, is wanted here');
+      else columns = Math.max(columns, text.length - 3);
     });
     const count = line.length;
     line.push(this.at);
-    return { count, line: new Uint32Array(line), terminal, byName, entry: new Uint32Array(count) };
+    return { count, line: new Uint32Array(line), terminal, byName, entry: new Uint32Array(count), columns };
   }
 
   readFiles() {
@@ -166,7 +168,7 @@ class ReportReader {
     if (this.at >= this.lines.count) this.refuse('FINISHED or UNFINISHED is wanted here');
     const finished = this.lines.at(this.at) === 'FINISHED';
     this.at += 1;
-    if (this.at < this.lines.count) this.refuse('nothing stands behind the last line of a report');
+    if (this.at < this.lines.count) this.refuse('nothing stands after the last line of a report');
     return finished;
   }
 }

@@ -175,7 +175,7 @@ class Run:
         terminal.shown = 0
 
     def attempt(self, terminal):
-        """One attempt of a unit; says whether the unit has ended. Behind each yield it may have to go back."""
+        """One attempt of a unit; says whether the unit has ended. After each yield it may have to go back."""
         yield
         if not terminal.is_live:
             return False

@@ -3,10 +3,10 @@
 
 const CHECKPOINTS = {
   START: name => `the backup is sent ${name} as it is before a unit`,
-  END: name => `the backup is sent ${name} as it is behind a unit`,
+  END: name => `the backup is sent ${name} as it is after a unit`,
   COPY: name => `the new backup is sent all of ${name}`,
 };
-const STATUSES = { 0: 'done', 1: 'no record behind the key', 10: 'there is a record of this key already', 11: 'there is no such record' };
+const STATUSES = { 0: 'done', 1: 'no record after the key', 10: 'there is a record of this key already', 11: 'there is no such record' };
 const LOCKS = { S: ', under a shared lock', X: ', under an exclusive lock' };
 
 // What an entry means, by its kind and the groups of its form.
@@ -69,7 +69,7 @@ class Teller {
     const name = this.report.laneName(log.terminal[at - 1]), line = this.deck && this.deck.entryLine(name, log.number[at - 1]);
     if (line !== undefined && line !== null) return `typed: ${line}`;
     const next = this.shownBeside(at, 1), last = this.shownBeside(at, -1);
-    if (!next) return 'The line itself stands in the deck, and no screen was shown behind it.';
+    if (!next) return 'The line itself stands in the deck, and no screen was shown after it.';
     const changed = this.changedRows(last, next);
     const says = changed.length ? changed.join('   ') : 'the same as before';
     return `The line itself stands in the deck. The next screen, ${this.report.screenName(next - 1)}, shows ${says}`;
@@ -90,6 +90,34 @@ class Teller {
     return this.report.screenRows(next - 1).flatMap((row, i) => (row === (before[i] || '') ? [] : [`${String(i + 1).padStart(2, '0')}|${row}`]));
   }
 
+  // The waits of which an entry tells: for whom, to where, and on which file the lock is, as far as the log tells.
+  wait(at) {
+    const { waits } = this.report;
+    return this.waitsAt(at).map(wait => {
+      const holder = `the unit ${waits.unit[wait]} of ${this.report.laneName(waits.holder[wait])}`, files = waits.files[wait];
+      const on = files.length === 1 ? `The lock is on ${files[0]}.` : files.length ? `The lock is on ${files.join(' or ')}: the log tells no more.` : 'On which file the log does not tell.';
+      if (waits.look[wait] === WAIT.WAIT) return `${on} ${this.waitEnd(wait)}`;
+      const process = this.report.laneName(waits.lane[wait]);
+      if (waits.to[wait] === at) return `From ${waits.from[wait]} on the process ${process} may have waited for it.`;
+      return `From ${waits.from[wait]} to ${waits.to[wait]} it may have waited: ${holder} had locks on ${files[0]} until then.`;
+    }).join(' ');
+  }
+
+  // Until when a unit waits for an older one: to the end of that, or to its own terminal's, or it waits still.
+  waitEnd(wait) {
+    const { waits, log } = this.report, to = waits.to[wait], kind = this.report.kindOf(to), isLast = [KIND.COMMIT, KIND.BACK, KIND.REPLY, KIND.END].includes(kind);
+    if (kind === KIND.END && log.lane[to - 1] === waits.lane[wait]) return `It waits until its terminal ends, at ${to}.`;
+    if (kind === KIND.FAIL_TCP || (isLast && log.terminal[to - 1] === waits.holder[wait])) return `It waits until that unit has ended, at ${to}.`;
+    return 'It still waits where the log ends.';
+  }
+
+  waitsAt(at) {
+    const { waits } = this.report, first = firstNotBelow(waits.entry, at);
+    let end = first;
+    while (waits.entry[end] === at) end += 1;
+    return Array.from({ length: end - first }, (_, i) => first + i);
+  }
+
   // In which attempt an entry stands, and for whom a process is at work.
   place(at) {
     const { log, attempts } = this.report, attempt = log.attempt[at - 1];
@@ -105,6 +133,7 @@ class Teller {
     if (log.screen[at - 1]) ways.push({ screen: log.screen[at - 1] - 1, says: 'its screen' });
     if (this.report.kindOf(at) === KIND.KEY && this.shownBeside(at, 1)) ways.push({ screen: this.shownBeside(at, 1) - 1, says: 'the next screen' });
     add(log.cause[at - 1], this.causeName(log.cause[at - 1]));
+    for (const wait of this.waitsAt(at)) add(this.report.waits.to[wait], 'where the wait ends');
     if (attempt) {
       add(attempts.from[attempt - 1], 'where the attempt begins');
       add(attempts.to[attempt - 1], 'where it ends');

@@ -3,20 +3,22 @@
 
 const WIDEST = 16;         // pixels an entry
 const STEP = 2;            // how much a button or a key zooms
-const SETTLE = 180;        // milliseconds behind the last scroll before idle lanes are folded anew
+const SETTLE = 180;        // milliseconds after the last scroll before idle lanes are folded anew
 const NEAR = 10;           // pixels between a click and the entry that it means
 
 class Timeline {
-  // `parts` are the elements: box, names, scroller, extent, canvas, tip, zoom. `choose` is told the entry that a user takes,
-  // `open` the one on which Enter is pressed, and `filter` the terminal whose name is pressed.
+  // `parts` are the elements: box, names, scroller, extent, canvas, tip, zoom, minimap. `choose` is told the entry that a user
+  // takes, `open` the one on which Enter is pressed, and `filter` the terminal whose name is pressed.
   constructor(parts, { choose, open, filter }) {
     this.parts = parts;
     this.tellChosen = choose;
     this.tellOpened = open;
     this.drawing = new Drawing(parts.canvas);
     this.names = new LaneNames(parts.names, { toggle: group => this.toggle(group), filter });
+    this.minimap = new Minimap(parts.minimap, { go: (at, lane) => this.centre(at, lane) });
     this.report = null;
     this.folds = true;
+    this.found = new Uint32Array(0);
     this.listen();
   }
 
@@ -29,7 +31,11 @@ class Timeline {
     scroller.addEventListener('mouseleave', () => { this.parts.tip.hidden = true; });
     scroller.addEventListener('keydown', event => this.onKey(event));
     new ResizeObserver(() => this.onResize()).observe(scroller);
+    NARROW_WINDOW.addEventListener('change', () => this.fitNames());
   }
+
+  // The column of names is as wide as these need.
+  fitNames() { if (this.report) this.parts.box.style.setProperty('--names', `${this.names.wideFor(this.report, this.groups)}px`); }
 
   // Shows a report from its first to its last entry.
   show(report, groups) {
@@ -41,6 +47,9 @@ class Timeline {
     this.entriesOf = report.entriesOf;
     this.marked = report.entriesWith([LOOK.fail, LOOK.takeover, LOOK.odd]);
     this.lined = report.entriesWith([LOOK.fail, LOOK.takeover]);
+    this.found = new Uint32Array(0);
+    this.minimap.show(report, groups);
+    this.fitNames();
     this.pixels = this.least();
     this.layOut();
     this.showWhole();
@@ -60,14 +69,15 @@ class Timeline {
 
   view() {
     const { scrollLeft, scrollTop, clientWidth, clientHeight } = this.parts.scroller;
-    const { report, rows, pixels, chosen, keep, lined } = this;
-    return { report, rows, pixels, chosen, keep, lined, left: scrollLeft, top: scrollTop, wide: clientWidth, high: clientHeight };
+    const { report, rows, pixels, chosen, keep, lined, found } = this;
+    return { report, rows, pixels, chosen, keep, lined, found, left: scrollLeft, top: scrollTop, wide: clientWidth, high: clientHeight };
   }
 
   draw() {
     if (!this.report) return;
     const view = this.view();
     this.drawing.draw(view);
+    this.minimap.draw(view, this.found);
     this.names.scrollTo(view.top);
     this.parts.zoom.textContent = `${this.firstInView()} to ${this.lastInView()} of ${this.report.log.count}, ${tellPixels(this.pixels)}`;
   }
@@ -83,15 +93,17 @@ class Timeline {
     this.settling = setTimeout(() => this.layOut(), SETTLE);
   }
 
-  // A lane is idle where no entry and no bar of it is in view.
+  // A lane is idle where no entry, no bar and no wait of it is in view.
   isIdle(lane) {
     if (!this.folds && !this.keep) return false;
     const first = this.firstInView(), last = this.lastInView(), entries = this.entriesOf.of(lane);
     if (entries[firstNotBelow(entries, first)] <= last) return false;
-    const { attempts } = this.report, own = attempts.of.of(lane), place = firstAttemptBehind(attempts, own, first);
-    if (place === own.length) return true;
-    const from = attempts.from[own[place] - 1];
-    return from > last || (this.keep !== null && !this.keep[from - 1]);
+    return [this.report.attempts, this.report.waits].every(bars => {
+      const own = bars.of.of(lane), place = firstBehind(bars.to, own, first);
+      if (place === own.length) return true;
+      const from = bars.from[own[place] - 1];
+      return from > last || (this.keep !== null && !this.keep[from - 1]);
+    });
   }
 
   // Makes the rows anew where they are others now, and keeps the row at the top of the view where it is.
@@ -124,7 +136,7 @@ class Timeline {
 
   zoom(pixels, middle = this.middle()) {
     const { scroller, extent } = this.parts, least = this.least(), place = middle / this.pixels;
-    // An entry at the edge of the view is whole behind the zoom too.
+    // An entry at the edge of the view is whole after the zoom too.
     const offset = Math.min(this.wide() - WIDEST / 2, Math.max(WIDEST / 2, middle - scroller.scrollLeft));
     this.pixels = Math.min(WIDEST, Math.max(least, pixels));
     this.isWhole = this.pixels === least;
@@ -150,6 +162,30 @@ class Timeline {
     this.layOut();
     this.draw();
   }
+
+  // Brings an entry and a lane into the middle of the view.
+  centre(at, lane) {
+    const { scroller } = this.parts;
+    scroller.scrollLeft = (at - 0.5) * this.pixels - this.wide() / 2;
+    this.scrollToRow(this.rows.of(lane), true);
+    this.drawSoon();
+  }
+
+  scrollToRow(row, isMiddle) {
+    const { scroller } = this.parts, high = scroller.clientHeight - RULER_HIGH;
+    scroller.scrollTop = isMiddle ? row.top - (high - row.high) / 2 : row.top;
+  }
+
+  // Brings the lanes of a group to the top of the view.
+  reach(group) {
+    this.layOut();
+    this.scrollToRow(this.rows.list.find(row => row.group === group), false);
+    this.drawSoon();
+  }
+
+  setFound(found) { this.found = found; this.drawSoon(); }
+
+  isFound(at) { return this.found[firstNotBelow(this.found, at)] === at; }
 
   setFolding(folds) { this.folds = folds; this.layOut(); }
 
@@ -189,7 +225,7 @@ class Timeline {
     const near = row.lanes.flatMap(lane => (lane === NONE ? [] : this.nearest(lane, at)));
     const best = near.reduce((one, other) => (Math.abs(other - at) < Math.abs(one - at) ? other : one), Infinity);
     if (Math.abs(best - at) * this.pixels <= NEAR) return best;
-    return row.kind === 'lane' ? this.barAt(row.lanes[0], Math.round(at)) : 0;
+    return row.kind === 'idle' || row.lanes[0] === NONE ? 0 : this.barAt(row.lanes[0], Math.round(at));
   }
 
   // The entries of a lane on both sides of a place.
@@ -198,9 +234,15 @@ class Timeline {
     return [entries[place - 1], entries[place]].filter(entry => entry !== undefined);
   }
 
+  // The entry that tells of the bar at a place: where the attempt begins, or what tells of the wait.
   barAt(lane, at) {
-    const { attempts } = this.report, own = attempts.of.of(lane), attempt = own[firstAttemptBehind(attempts, own, at)];
-    return attempt && attempts.from[attempt - 1] <= at ? attempts.from[attempt - 1] : 0;
+    const { attempts, waits } = this.report;
+    const under = bars => {
+      const own = bars.of.of(lane), bar = own[firstBehind(bars.to, own, at)];
+      return bar && bars.from[bar - 1] <= at ? bar - 1 : -1;
+    };
+    const attempt = under(attempts), wait = under(waits);
+    return attempt >= 0 ? attempts.from[attempt] : wait >= 0 ? waits.entry[wait] : 0;
   }
 
   onClick(event) {
@@ -247,6 +289,7 @@ class Timeline {
       '+': () => this.zoom(this.pixels * STEP), '=': () => this.zoom(this.pixels * STEP), '-': () => this.zoom(this.pixels / STEP),
       0: () => this.showWhole(), 1: () => this.zoom(WIDEST),
       n: () => this.stepAmong(this.marked, 1), p: () => this.stepAmong(this.marked, -1),
+      ']': () => this.stepGroup(1), '[': () => this.stepGroup(-1),
       Enter: () => { if (this.chosen) this.tellOpened(this.chosen); },
     };
   }
@@ -270,16 +313,28 @@ class Timeline {
     this.choose(entries[place] || 0);
   }
 
+  // The nearest entry of the next group on one side that has entries.
+  stepGroup(side) {
+    const at = this.here(), own = this.rows.of(this.report.log.lane[at - 1]).group, lanesOf = group => [group.head, ...group.lanes].filter(lane => lane !== NONE);
+    for (let place = this.groups.indexOf(own) + side; place >= 0 && place < this.groups.length; place += side) {
+      const near = lanesOf(this.groups[place]).flatMap(lane => this.nearest(lane, at));
+      if (near.length) return this.choose(nearestOf(near, at));
+    }
+    return undefined;
+  }
+
   // The nearest entry of the next row on one side that has entries.
   stepLane(side) {
     const at = this.here();
     for (let row = this.rows.rowOf[this.report.log.lane[at - 1]] + side; row >= 0 && row < this.rows.list.length; row += side) {
       const near = this.rows.list[row].lanes.flatMap(lane => (lane === NONE ? [] : this.nearest(lane, at)));
-      if (near.length) return this.choose(near.reduce((one, other) => (Math.abs(other - at) < Math.abs(one - at) ? other : one)));
+      if (near.length) return this.choose(nearestOf(near, at));
     }
     return undefined;
   }
 }
+
+function nearestOf(entries, at) { return entries.reduce((one, other) => (Math.abs(other - at) < Math.abs(one - at) ? other : one)); }
 
 function tellPixels(pixels) {
   return pixels >= 1 ? `${Math.round(pixels * 10) / 10} px an entry` : `${Math.round(10 / pixels) / 10} entries a px`;

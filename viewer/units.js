@@ -167,12 +167,12 @@ class Walk {
 
 function unitKey(terminal, unit) { return terminal * 2 ** 32 + unit; }
 
-// The first attempt of a terminal that ends at an entry or behind it, as a place in its attempts.
-function firstAttemptBehind(attempts, own, at) {
+// Of a lane's attempts or waits, whose ends rise, the first that ends at an entry or after it, as a place among them.
+function firstBehind(ends, own, at) {
   let low = 0, high = own.length;
   while (low < high) {
     const middle = (low + high) >>> 1;
-    if (attempts.to[own[middle] - 1] < at) low = middle + 1; else high = middle;
+    if (ends[own[middle] - 1] < at) low = middle + 1; else high = middle;
   }
   return low;
 }
