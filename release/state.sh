@@ -18,12 +18,13 @@ is_released() {
     # What was looked at before is there, and has not changed since. A list without a name says nothing.
     [ -s "$compared" ] && [ -z "$(cd "$here" && find -files0-from "$compared" -maxdepth 0 -cnewer "$compared" -print -quit 2>&1)" ] && return
     local names
-    why="there is no room for a temporary file"
-    names=$(mktemp) || return
+    why="no temporary file can be made"
+    names=$(mktemp 2> /dev/null) || return
     (cd "$here" && find crates crates.txt HANDLES release -name out -prune -o \
         -regextype posix-extended -regex "$deciding|crates(/[^/]+)?|release/[^/]+" -print0) > "$names" 2> /dev/null
     if ! why=$("$here/release/compare"); then
         rm -f "$names"
+        why=${why:-release/compare does not run}
         return 1
     fi
     # Where the checkout cannot be written to, each call compares.
