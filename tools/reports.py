@@ -1,6 +1,6 @@
 """What the tools share: they read reports and decks, and refuse what is neither with one line and the status 2.
 
-docs/LOG.md says what a report and the entries of its log are, docs/DECK.md what a deck is."""
+docs/reference/DECK.md says what a deck, a report and the entries of its log are."""
 import collections, os, pathlib, re, sys
 
 # The status of a tool that is given what it cannot read.
@@ -102,6 +102,45 @@ def entry_of(number, line):
     return None
 
 
+def no_report(title, why):
+    return Refused(f"{title} is no report: {why}")
+
+
+def headings_in(title, lines):
+    """Where the headings SCREENS, FILES and LOG of a report stand. The log is what stands after the last line LOG."""
+    if not lines:
+        raise no_report(title, "it is empty")
+    if lines[0] != "SERIAL":
+        raise no_report(title, f"its first line is {shown(lines[0])}, not SERIAL")
+    if lines[-1] not in ("FINISHED", "UNFINISHED"):
+        raise no_report(title, f"its last line is {shown(lines[-1])}, not FINISHED or UNFINISHED")
+    at = 0
+    for heading in ("SCREENS", "FILES", "LOG"):
+        if heading not in lines[at:]:
+            raise no_report(title, f"it lacks the line {heading}, or that stands elsewhere")
+        at = lines.index(heading, at)
+    screens = lines.index("SCREENS")
+    return screens, lines.index("FILES", screens), len(lines) - 1 - lines[::-1].index("LOG")
+
+
+def files_in(path):
+    """The records of each file of a report, or of a FILES part alone, as `trial` and `trail` print it."""
+    title, lines = titled(path), lines_of(path)
+    if lines[:1] != ["FILES"]:
+        _, files, log = headings_in(title, lines)
+        lines = lines[files:log]
+    found, records = {}, None
+    for line in lines[1:]:
+        heading = re.fullmatch(f"FILE ({NAME})", line)
+        if heading:
+            records = found.setdefault(heading[1], [])
+        elif records is None or not line.startswith("|"):
+            raise no_report(title, f"{shown(line)} is no line of FILES")
+        else:
+            records.append(line[1:])
+    return found
+
+
 class Report:
     """A report: the attempts of its serial order, each a terminal, a unit and how it ended; the message on row 24 of each screen
     that has one, by its terminal and refresh number; the lines of its log with the header; the entries; whether it is finished."""
@@ -109,30 +148,14 @@ class Report:
     def __init__(self, path):
         self.title = titled(path)
         lines = lines_of(path)
-        screens, files, log = self.headings_in(lines)
+        screens, files, log = headings_in(self.title, lines)
         self.units = self.units_in(lines[1:screens])
         self.messages = self.messages_in(lines[screens + 1 : files], screens + 2)
         self.log, self.finished = lines[log + 1 : -1], lines[-1] == "FINISHED"
         self.entries = self.entries_in(log + 2)
 
     def refuse(self, why):
-        raise Refused(f"{self.title} is no report: {why}")
-
-    def headings_in(self, lines):
-        """Where the headings SCREENS, FILES and LOG stand. The log is what stands behind the last line LOG."""
-        if not lines:
-            self.refuse("it is empty")
-        if lines[0] != "SERIAL":
-            self.refuse(f"its first line is {shown(lines[0])}, not SERIAL")
-        if lines[-1] not in ("FINISHED", "UNFINISHED"):
-            self.refuse(f"its last line is {shown(lines[-1])}, not FINISHED or UNFINISHED")
-        at = 0
-        for heading in ("SCREENS", "FILES", "LOG"):
-            if heading not in lines[at:]:
-                self.refuse(f"it lacks the line {heading}, or that stands elsewhere")
-            at = lines.index(heading, at)
-        screens = lines.index("SCREENS")
-        return screens, lines.index("FILES", screens), len(lines) - 1 - lines[::-1].index("LOG")
+        raise no_report(self.title, why)
 
     def units_in(self, lines):
         blocks = [BLOCK.fullmatch(line) for line in lines]
@@ -171,7 +194,7 @@ def words_of(line):
 
 
 def sections_of(path):
-    """The sections of a deck. What stands behind `?END` belongs to that section."""
+    """The sections of a deck. What stands after `?END` belongs to that section."""
     sections = [Section([], [])]
     for line in lines_of(path):
         if line.startswith("?") and sections[-1].words != ["?END"]:
@@ -190,19 +213,50 @@ def lines_in(sections, heading):
     return [line for line in found if words_of(line)]
 
 
-def run(tool, usage, fewest, most):
-    """Runs a tool on as many words as it takes, and prints the lines that it gives. What it refuses is told on standard error,
-    and nothing is printed then."""
+def usage_of(page):
+    """The usage line of a tool: the first line of its page of help that is set in."""
+    return next(line.strip() for line in page.splitlines() if line.startswith("    "))
+
+
+def read_words(words, page, fewest, most, flags):
+    """The words of a call without its flags, and which of these stand there."""
+    plain = [word for word in words if word == "-" or not word.startswith("-")]
+    given = [word for word in words if word not in plain]
+    unknown = [word for word in given if word not in flags]
+    if unknown:
+        raise Refused(f"there is no option {shown(unknown[0])}; usage: {usage_of(page)}")
+    if not fewest <= len(plain) <= most:
+        raise Refused(f"usage: {usage_of(page)}")
+    if plain.count("-") > 1:
+        raise Refused("only one file can be standard input")
+    return plain, {flag.removeprefix("--"): True for flag in given}
+
+
+def print_lines(lines):
+    sys.stdout.write("".join(f"{line}\n" for line in lines))
+    sys.stdout.flush()
+
+
+def serve(tool, page):
+    """Runs a tool on the words of a call, and prints the lines that it gives; or its page of help. What it refuses is told on
+    standard error, and nothing is printed then."""
     words = sys.argv[1:]
     sys.stdout.reconfigure(encoding="utf-8", errors="surrogateescape", newline="\n")
     try:
-        if not fewest <= len(words) <= most:
-            raise Refused(f"usage: {usage}")
-        sys.stdout.write("".join(f"{line}\n" for line in tool(*words)))
-        sys.stdout.flush()
+        print_lines(page.splitlines() if {"--help", "-h"} & set(words) else list(tool(words)))
     except Refused as refused:
         print(f"{os.path.basename(sys.argv[0])}: {refused}", file=sys.stderr)
         sys.exit(REFUSED)
     except BrokenPipeError:
         # Whoever reads has enough; the interpreter shall not try once more at its end.
         os.dup2(os.open(os.devnull, os.O_WRONLY), sys.stdout.fileno())
+
+
+def run(tool, page, fewest, most, flags=()):
+    """Runs a tool on as many words as it takes, and on its flags."""
+
+    def on_words(words):
+        plain, given = read_words(words, page, fewest, most, flags)
+        return tool(*plain, **given)
+
+    serve(on_words, page)

@@ -24,7 +24,7 @@ def entries_of(report, terminal):
 
 
 class Remarks:
-    """What stands behind the entries of a terminal: the message of a screen, and the file operations of a request, with their
+    """What stands after the entries of a terminal: the message of a screen, and the file operations of a request, with their
     status where it is not 0, at the entry that ends it."""
 
     def __init__(self, report):
@@ -51,14 +51,12 @@ def told(entry, remark):
 
 
 def story(report, terminal):
-    """What a terminal did: its entries without its checkpoints and requests. Replies tell what the servers did."""
+    """What a terminal did: a line about it, and its entries without its checkpoints and requests, each with its remark. Replies
+    tell what the servers did."""
     entries = [entry for entry, _ in entries_of(report, terminal)]
-    yield head_of(report, terminal, entries)
     remarks = Remarks(report)
-    for entry in entries:
-        remark = remarks.of(entry)
-        if entry.kind not in LEFT_OUT:
-            yield told(entry, remark)
+    rows = [(entry, remarks.of(entry)) for entry in entries]
+    return head_of(report, terminal, entries), [row for row in rows if row[0].kind not in LEFT_OUT]
 
 
 def head_of(report, terminal, entries):
@@ -79,7 +77,7 @@ def attempts(report, terminal=None):
 
 
 def unit_story(report, terminal, unit):
-    """All entries of a unit of a terminal, with its servers' work."""
+    """A line about a unit of a terminal, and all its entries, with its servers' work, each with its remark."""
     entries = [entry for entry, number in entries_of(report, terminal) if number and str(number) == unit]
     if not entries:
         numbers = sorted({number for whose, number, _ in report.units if whose == terminal})
@@ -88,7 +86,6 @@ def unit_story(report, terminal, unit):
     hows = [how for whose, number, how in report.units if (whose, str(number)) == (terminal, unit)]
     causes = ", ".join(entry.cause for entry in entries if entry.kind == "RESTART")
     fate = FATES[hows[-1]] if hows else "not begun"
-    yield f"{units.title_of(terminal, unit)}: {fate}" + (f"; restarted by {causes}" if causes else "")
+    head = f"{units.title_of(terminal, unit)}: {fate}" + (f"; restarted by {causes}" if causes else "")
     remarks = Remarks(report)
-    for entry in entries:
-        yield told(entry, remarks.of(entry) if entry.kind == "SHOW" else "")
+    return head, [(entry, remarks.of(entry) if entry.kind == "SHOW" else "") for entry in entries]

@@ -1,4 +1,4 @@
-"""The branches of IF and ON SIZE ERROR that are open, piece by piece (docs/PROCEDURE.md)."""
+"""The branches of IF and ON SIZE ERROR that are open, piece by piece (docs/reference/LANGUAGE.md)."""
 
 MOST_OPEN = 64
 
@@ -11,7 +11,7 @@ class Branch:
 
     @property
     def begin(self):
-        """The piece behind which it stands: its ELSE, or what opened it."""
+        """The piece after which it stands: its ELSE, or what opened it."""
         return self.turned or self.opener
 
     @property

@@ -2,15 +2,16 @@
 it gives the token, and what is to be told of it."""
 import re
 
+from explaining.division_reasons import misspelt_heading
 from explaining.pictures import PICTURE_TAKES, picture_of, why_none
 from explaining.program import Field, TOLD
-from explaining.source_reasons import advised
+from explaining.source_reasons import advised, comma_number
 from explaining.tokens import behind
 from explaining.words import FIGURATIVE, TABLE, counted
 
 MOST_STORAGE = 32000
 ROWS, COLUMNS = 23, 80
-NO_PICTURE = "the picture stands behind PIC on the same line"
+NO_PICTURE = "the picture stands after PIC on the same line"
 
 
 def entries_at(deck, line, *sections):
@@ -32,16 +33,18 @@ def missing_period(entry):
     """Where an entry should have ended, since the next one begins on the next line, or since nothing follows."""
     for before, token, after in zip(entry.tokens, entry.tokens[1:], entry.tokens[2:]):
         if token.line > before.line and token.kind == "number" and token.text.isdigit() and after.kind == "word":
-            yield behind(before), f"no period ends the entry behind {before.text} in line {before.line}"
+            yield behind(before), f"no period ends the entry after {before.text} in line {before.line}"
     if not entry.closed:
         last = entry.tokens[-1]
-        yield behind(last), f"no period ends the entry behind {last.text} in line {last.line}"
+        yield behind(last), f"no period ends the entry after {last.text} in line {last.line}"
 
 
 def bad_data_entry(deck, line):
     """121"""
     for program, entry in entries_at(deck, line, "WORKING-STORAGE", "LINKAGE"):
         item = next(it for it in program.items if it.entry is entry)
+        lines = {token.line for token in entry.tokens}
+        yield from (found for found in misspelt_heading(program) if found[0].line in lines)
         yield from missing_period(entry)
         yield from bad_head(program, entry)
         yield from bad_level(item)
@@ -64,18 +67,18 @@ def bad_head(program, entry):
     if not 1 <= entry.level <= 49 and entry.level != 77:
         yield first, "levels are 1 to 49, and 77"
     if not entry.name or entry.name.is_word("PIC", "PICTURE") or program.side == "requester" and entry.name.is_word("$RECEIVE"):
-        yield entry.tokens[1] if entry.tokens[1:] else behind(first), "behind the level stands a name, or FILLER"
+        yield entry.tokens[1] if entry.tokens[1:] else behind(first), "after the level stands a name, or FILLER"
 
 
 def bad_level(item):
-    """Why an entry may not stand behind those before it."""
+    """Why an entry may not stand after those before it."""
     entry = item.entry
     if item.parent is None and entry.level not in (1, 77):
         yield entry.tokens[0], "it belongs to no entry before it: begin with level 01"
 
 
 def clauses_of(entry):
-    """The clauses behind the name of an entry of the data: each its word and its value; a word that begins none by itself."""
+    """The clauses after the name of an entry of the data: each its word and its value; a word that begins none by itself."""
     rest = entry.tokens[2:]
     while rest:
         word, rest = rest[0], rest[1:]
@@ -95,8 +98,10 @@ def bad_clauses(program, entry):
     seen = set()
     for word, value in clauses_of(entry):
         kind = "PIC" if word.is_word("PICTURE") else word.upper
+        if word.kind == "number" and comma_number(program, entry.tokens, entry.tokens.index(word)):
+            yield comma_number(program, entry.tokens, entry.tokens.index(word))
         if kind not in ("PIC", "VALUE", "OCCURS"):
-            yield advised(program, [word]) or (word, f"behind the name stand PIC, VALUE and OCCURS alone, and not {word.text}")
+            yield advised(program, [word]) or (word, f"after the name stand PIC, VALUE and OCCURS alone, and not {word.text}")
         if kind in seen:
             yield word, f"{kind} stands twice"
         seen.add(kind)
@@ -105,9 +110,9 @@ def bad_clauses(program, entry):
         if kind == "VALUE" and value is not None and value.is_word(*FIGURATIVE):
             yield value, "leave VALUE out: without it a text begins with spaces and a number with zero"
         if kind == "VALUE" and (value is None or value.kind not in ("text", "number")):
-            yield advised(program, [value or word]) or (value or word, "behind VALUE stands a text in quotes, or a number")
+            yield advised(program, [value or word]) or (value or word, "after VALUE stands a text in quotes, or a number")
         if kind == "OCCURS" and (value is None or not value.text.isdigit() or not 1 <= int(value.text) <= 1000):
-            yield value or word, "behind OCCURS stands a number from 1 to 1,000"
+            yield value or word, "after OCCURS stands a number from 1 to 1,000"
 
 
 def bad_place(item):
@@ -145,7 +150,7 @@ def bad_value(literal, picture):
         whole, _, decimals = literal.text.lstrip("+-").partition(".")
         whole, decimals = len(whole.lstrip("0")), len(decimals.rstrip("0"))
         if whole > picture.whole or decimals > picture.decimals:
-            told = f"the picture has {counted(picture.whole, 'digit')} in front of the point and {picture.decimals} behind it"
+            told = f"the picture has {counted(picture.whole, 'digit')} in front of the point and {picture.decimals} after it"
             yield literal, f"{told}, and the value {whole} and {decimals}"
         if literal.text.startswith("-") and not picture.signed:
             yield literal, "a picture without S has no negative value"
@@ -238,17 +243,17 @@ def bad_screen_level(program, entry):
         yield first, "a screen has level 01, and its fields levels 02 to 49"
     before = program.screen_entries[: program.screen_entries.index(entry)]
     if entry.level > 1 and not any(it.level == 1 for it in before):
-        yield first, "a field stands behind a screen, an entry of level 01"
+        yield first, "a field stands after a screen, an entry of level 01"
     if not entry.name:
-        told = "behind the level stands a name" + " or FILLER" * (entry.level > 1)
+        told = "after the level stands a name" + " or FILLER" * (entry.level > 1)
         yield entry.tokens[1] if entry.tokens[1:] else behind(first), told
 
 
 def bad_screen(program, entry):
-    """What is wrong behind the name of a screen."""
+    """What is wrong after the name of a screen."""
     rest = entry.tokens[2:]
     if not re.fullmatch(r"(BASE)? ?(SIZE 0*24 0*80)?", " ".join(token.upper for token in rest)):
-        yield advised(program, rest) or (rest[0], "behind the name of a screen stand BASE and SIZE 24, 80 alone, in this order")
+        yield advised(program, rest) or (rest[0], "after the name of a screen stand BASE and SIZE 24, 80 alone, in this order")
 
 
 def bad_field_place(program, entry):
@@ -256,7 +261,7 @@ def bad_field_place(program, entry):
     place = entry.tokens[2:5]
     if not (len(place) > 2 and place[0].is_word("AT") and all(it.kind == "number" and it.text.isdigit() for it in place[1:])):
         wrong = place[0] if place else behind(entry.tokens[-1])
-        yield advised(program, place[:1]) or (wrong, "behind the name stand AT, the row and the column")
+        yield advised(program, place[:1]) or (wrong, "after the name stand AT, the row and the column")
 
 
 def bad_field_clauses(program, entry, field):
@@ -286,12 +291,12 @@ def bad_field_item(program, field):
     """Why an item does not fit its field."""
     item = program.by_name.get(field.item.upper) if field.item else None
     if item is None:
-        yield field.clauses[0], "behind FROM, TO and USING stands an item"
+        yield field.clauses[0], "after FROM, TO and USING stands an item"
     name = field.item.text
     if item.table:
         yield field.item, f"{name} is of a table: MOVE the element to an item of its own, and show that"
     if any(token.is_mark("(") for token in field.entry.tokens):
-        yield field.item, f"behind {name} stands no subscript"
+        yield field.item, f"after {name} stands no subscript"
     if item.kind == "group":
         yield field.item, f"{name} is a group: show its members, each in a field of its own"
     if (field.picture.kind == "text") != (item.kind == "text"):

@@ -1,4 +1,4 @@
-"""The deck (docs/DECK.md): its lines, sections, commands, objects and programs, as far as they can be read."""
+"""The deck (docs/reference/DECK.md): its lines, sections, commands, objects and programs, as far as they can be read."""
 import functools
 import re
 from typing import NamedTuple
@@ -10,7 +10,7 @@ SIDES = {"SCREEN-COBOL": "requester", "SERVER": "server"}
 
 
 class Section(NamedTuple):
-    """A section: the word behind the question mark, the words of its line, the number of that line, and its numbered lines."""
+    """A section: the word after the question mark, the words of its line, the number of that line, and its numbered lines."""
     kind: str
     words: list
     line: int
@@ -86,7 +86,7 @@ class Deck:
         return [words for number, text in lines if not text.startswith("*") and (words := words_of(text, number))]
 
     def commands_of(self, *verbs):
-        """The commands that begin with these words and have a name behind them."""
+        """The commands that begin with these words and have a name after them."""
         longer = [words for words in self.commands if len(words) > len(verbs)]
         return [words for words in longer if all(word.upper == verb for word, verb in zip(words, verbs))]
 

@@ -1,4 +1,6 @@
 """Why the divisions of a source are refused (151): which token may not stand where it is, and what may."""
+import difflib
+
 from explaining.program import SECTIONS, entries_of, heading_at
 from explaining.source_reasons import advised
 from explaining.tokens import Token, behind
@@ -52,7 +54,7 @@ class Walk:
         self.take(".")
 
     def using(self):
-        """The names behind USING."""
+        """The names after USING."""
         names = [it.name.upper for it in entries_of(self.program.parts["LINKAGE"], "LINKAGE") if it.level == 1 and it.name]
         self.at += 1
         first = self.at
@@ -70,7 +72,7 @@ def told_of(program, token):
     if token.is_word("LINKAGE", "SCREEN") and program.side == "server":
         return "a server has WORKING-STORAGE SECTION alone"
     if token.is_word(*SECTIONS):
-        return "the sections stand in the order WORKING-STORAGE, LINKAGE, SCREEN, behind DATA DIVISION, each once"
+        return "the sections stand in the order WORKING-STORAGE, LINKAGE, SCREEN, after DATA DIVISION, each once"
     if token.is_word("FILE"):
         return "there is no FILE SECTION: a file is a section of the deck, ?FILE name KEY n"
     if token.is_word("USING"):
@@ -80,18 +82,39 @@ def told_of(program, token):
     return (advised(program, [token]) or (token, None))[1]
 
 
+HEADINGS = ("IDENTIFICATION DIVISION", "ENVIRONMENT DIVISION", "DATA DIVISION", "WORKING-STORAGE SECTION", "LINKAGE SECTION",
+            "SCREEN SECTION", "PROCEDURE DIVISION")
+
+
+def misspelt_heading(program):
+    """The first line that is nearly a heading, with that heading."""
+    for number, text in program.section.lines:
+        told = " ".join(text.upper().split()).rstrip(" .")
+        head = told.split(" USING ")[0]
+        meant = difflib.get_close_matches(head, HEADINGS, 1, 0.85) if head not in HEADINGS else []
+        # A word of the text more, as in a statement, is none that is spelled wrong.
+        if meant and not text.startswith("*") and len(head.split()) <= 3:
+            column = len(text) - len(text.lstrip(" ")) + 1
+            yield Token("line", text.strip(" "), number, column), f"line {number}: {told}: did you mean {meant[0]}?"
+            return
+
+
 def bad_division(deck, line):
     """151"""
-    # A source without a line is refused at the line behind it, which is that of the next section.
+    # A source without a line is refused at the line after it, which is that of the next section.
     program = deck.program_at(line - deck.line(line).startswith("?"))
     section = program.section
     if not program.tokens:
-        yield Token("line", section.words[0], section.line, 1), f"behind {section.words[0]} {section.name} stands no source"
+        yield Token("line", section.words[0], section.line, 1), f"after {section.words[0]} {section.name} stands no source"
         return
     walk = Walk(program)
     walk.run()
     last, stop = program.tokens[walk.at - 1], program.tokens[walk.at] if walk.at < len(program.tokens) else None
     here = f"{stop.text if stop else 'the end of the source'} stands where {walk.wanted} is wanted"
+    yield from misspelt_heading(program)
+    if walk.wanted == PERIOD and stop and stop.line > last.line:
+        words = [token.text for token in program.tokens if token.line == last.line]
+        yield behind(last), f"no period ends line {last.line}: {' '.join(words)}"
     if walk.parameters is not None:
         yield stop, here, f"{stop.text}: {suggestion(stop.text, walk.parameters, 'such name')}"
     if walk.wanted == f"{section.name}.":

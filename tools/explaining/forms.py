@@ -1,5 +1,5 @@
-"""The forms of statements (docs/PROCEDURE.md). A form is words in upper case and places in lower case (docs/NAMES.md); brackets
-stand round what may be left out, and two dots behind what may be repeated."""
+"""The forms of statements and the places of their operands (docs/reference/LANGUAGE.md). A form is words in upper case and places in
+lower case; brackets stand round what may be left out, and two dots after what may be repeated."""
 import functools
 import re
 from typing import NamedTuple, Optional

@@ -2,6 +2,7 @@
 and what is to be told of it."""
 from explaining.program import TOLD
 from explaining.source_reasons import NO_PERIOD, takes_heading
+from explaining.tokens import behind
 from explaining.words import ADVICE, FIGURATIVE, LIKE_ITEMS, REGISTERS, VERBS, counted, near, suggestion
 
 NAMED_PLACES = ("screen", "program", "class", "file")
@@ -30,7 +31,18 @@ def unknown_paragraph(deck, line):
     """161"""
     for program, _, _, (token, *_) in uses_at(deck, line, "paragraph"):
         if token.upper not in program.names("paragraph"):
+            yield from unclosed_before(program, token.upper)
             yield token, unknown(program, token, "paragraph", program.names("paragraph"))
+
+
+def unclosed_before(program, name):
+    """Where the paragraph of a name stands after a statement that no period closes."""
+    for piece in program.pieces:
+        last = piece.tokens[-1]
+        if piece.kind in ("statement", "run") and last.upper == name and program.is_heading(last):
+            before = piece.tokens[-2] if piece.tokens[1:] else last
+            yield behind(before), NO_PERIOD.format(name, last.line) + f": it belongs after {before.text} in line {before.line}"
+            return
 
 
 def unknown_name(deck, line):

@@ -1,4 +1,4 @@
-"""What docs/FAULTS.md says of the codes."""
+"""What docs/reference/DECK.md says of the codes."""
 import re
 
 

@@ -1,8 +1,8 @@
-"""Pictures (docs/NUMBERS.md): what a picture is, and why a text is none."""
+"""Pictures (docs/reference/LANGUAGE.md): what a picture is, and why a text is none."""
 import re
 from typing import NamedTuple
 
-PICTURE_TAKES = "what stands behind PIC up to the next space is the picture: leave out the {} at its end"
+PICTURE_TAKES = "what stands after PIC up to the next space is the picture: leave out the {} at its end"
 MOST_SYMBOLS = 32000
 MOST_DIGITS = 18
 COUNTED = re.compile(r"([X9Z])\((\d+)\)")
@@ -11,7 +11,7 @@ FOREIGN = re.compile(r"[^X9ZSV,.()\-0-9]")
 
 
 class Picture(NamedTuple):
-    """A picture: its kind, its characters, its digits in front of the point and behind it, and whether it has a sign."""
+    """A picture: its kind, its characters, its digits in front of the point and after it, and whether it has a sign."""
     kind: str
     size: int
     whole: int = 0
@@ -46,11 +46,11 @@ def picture_of(text):
         return None
     if not symbols.strip("X"):
         return Picture("text", len(symbols))
-    number = re.fullmatch(r"(S?)(9+)(?:V(9+))?", symbols)
+    number = re.fullmatch(r"(S?)(9*)(?:V(9+))?", symbols)
     if not number:
         return edited(symbols)
     sign, whole, decimals = len(number[1]), len(number[2]), len(number[3] or "")
-    return Picture("number", sign + whole + decimals, whole, decimals, bool(sign)) if whole + decimals <= MOST_DIGITS else None
+    return Picture("number", sign + whole + decimals, whole, decimals, bool(sign)) if 1 <= whole + decimals <= MOST_DIGITS else None
 
 
 def why_none(text):

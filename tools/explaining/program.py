@@ -1,5 +1,4 @@
-"""A program (docs/PROGRAMS.md): its items (docs/DATA.md), its screens (docs/SCREENS.md), and its paragraphs with their statements
-(docs/PROCEDURE.md)."""
+"""A program (docs/reference/LANGUAGE.md): its items, its screens, and its paragraphs with their statements."""
 import functools
 import re
 
@@ -30,7 +29,7 @@ class Entry:
         return next((token for token in self.tokens if token.is_word(*words)), None)
 
     def behind(self, *words):
-        """The token behind a word and an IS, or none."""
+        """The token after a word and an IS, or none."""
         for place, token in enumerate(self.tokens):
             if token.is_word(*words):
                 rest = self.tokens[place + 1 : place + 3]
@@ -285,7 +284,7 @@ class Program:
 
     @functools.cached_property
     def paragraphs(self):
-        """The paragraphs: the token of each name with the pieces behind it."""
+        """The paragraphs: the token of each name with the pieces after it."""
         found = []
         for piece in self.pieces:
             if piece.kind == "paragraph":
@@ -305,7 +304,7 @@ class Program:
         return not self.paragraphs or piece.first[2:] < self.paragraphs[0][0][2:]
 
     def is_heading(self, token):
-        """Whether a word stands alone on its line, with a period behind it, as the name of a paragraph does."""
+        """Whether a word stands alone on its line, with a period after it, as the name of a paragraph does."""
         mates = [it for it in self.tokens if it.line == token.line]
         is_alone = len(mates) == 2 and mates[0] == token and mates[1].is_mark(".")
         return is_alone and token.kind == "word" and not self.declares(token.upper)

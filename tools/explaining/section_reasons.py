@@ -3,6 +3,7 @@ wrong on a line: it gives the token, and what is to be told of it."""
 import re
 
 from explaining.deck import words_of
+from explaining.missing import section_missing
 from explaining.name_reasons import MOST_RECORD
 from explaining.source_reasons import foreign_characters
 from explaining.tokens import Token, behind
@@ -62,19 +63,32 @@ def spelled_nearly(token, names):
 def bad_command(deck, line):
     """181"""
     words, upper = command_at(deck, line)
+    yield from section_missing(deck, line)
+    yield from pathway_form(words)
     wanted = [["SET", "ADD", "START"], list(VALUES if upper[0] == "SET" else KINDS)]
     if upper[0] == "SET" and upper[1:2] and upper[1] in VALUES:
         wanted.append(VALUES[upper[1]])
     for place, choices in enumerate(wanted):
         if place == len(words):
-            yield behind(words[-1]), f"behind {upper[-1]} stands {listed(choices)}"
+            yield behind(words[-1]), f"after {upper[-1]} stands {listed(choices)}"
         if upper[place] not in choices:
             yield words[place], spelled_nearly(words[place], choices)
     yield from bad_ending(words, words[len(wanted) :], upper[2] if upper[0] == "SET" else "")
 
 
+def pathway_form(words):
+    """A SET whose values stand in parentheses, with commas or with signs."""
+    odd = next((word for word in words if re.search(r"[(),=]", word.text)), None)
+    if odd:
+        text = re.sub(r" *[(),=] *", " ", " ".join(word.text for word in words)).strip()
+        verbs = text.split()
+        each = [f"{' '.join(verbs[:2])} {verbs[at]} {verbs[at + 1]}" for at in range(2, len(verbs) - 1, 2)]
+        shown = f": {listed(each, 'and')}" if verbs[0].upper() == "SET" and each else ""
+        yield odd, f"values stand without parentheses, commas and signs, each in a command of its own{shown}"
+
+
 def bad_ending(words, rest, value):
-    """What is wrong with the last word of a command, a name or a number, or with what stands behind it."""
+    """What is wrong with the last word of a command, a name or a number, or with what stands after it."""
     if not rest:
         yield behind(words[-1]), "a number is missing" if value in RANGES else "a name is missing"
     if value in RANGES and not re.fullmatch(r"\d{1,9}", rest[0].text):
@@ -183,7 +197,7 @@ def bad_section(deck, line):
         yield words[0], *told, "a deck begins with a section line, as ?PATHCOM"
     kind = words[0].upper[1:]
     if not kind:
-        yield behind(words[0]), "no space stands behind the question mark"
+        yield behind(words[0]), "no space stands after the question mark"
     if kind not in FORMS:
         yield words[0], told_heading(deck, kind, line)
     wanted, form = len(FORMS[kind].split()), FORMS[kind]
@@ -198,7 +212,7 @@ def bad_section(deck, line):
 
 
 def told_heading(deck, kind, line):
-    """What is to be told of a word behind a question mark that begins no section."""
+    """What is to be told of a word after a question mark that begins no section."""
     named = ["?" + it for it in near(kind, FORMS, 0.6)]
     if named:
         return f"did you mean {listed(named[:2])}?"
@@ -213,7 +227,7 @@ def end_missing(deck, line):
         if re.fullmatch(r" *[?]? *END[ .]*", text, re.I):
             yield Token("word", text, number, 1), f"line {number} is no ?END: that line is ?END alone, from column 1"
     if deck.lines:
-        yield Token("end", " ", len(deck.lines), len(deck.lines[-1]) + 1), f"?END belongs behind line {len(deck.lines)}"
+        yield Token("end", " ", len(deck.lines), len(deck.lines[-1]) + 1), f"?END belongs after line {len(deck.lines)}"
 
 
 def section_twice(deck, line):
@@ -227,6 +241,7 @@ def section_twice(deck, line):
 def bad_record(deck, line):
     """194"""
     section, text = deck.section_at(line), deck.line(line)
+    yield from section_missing(deck, line)
     key, told = deck.files.get(section.name, 0), []
     if text.startswith("*"):
         told.append("a line that begins with * is a record here, and no comment")
@@ -244,6 +259,7 @@ def bad_record(deck, line):
 def bad_entry(deck, line):
     """195"""
     text = deck.line(line)
+    yield from section_missing(deck, line)
     key = re.match("[^ ]*", text)[0]
     if not KEY.fullmatch(key):
         told = "there are no comments among entries" if key.startswith("*") else "a line begins with F1 to F16 or SF1 to SF16"
@@ -280,6 +296,7 @@ def bad_failure_line(deck, line):
     yield from loose_spaces(text, line)
     is_pair = words[0].is_word("TCP")
     yield from misspelt_words(words, {0: ["TCP", "SERVER"]})
+    yield from lacking_word(words, is_pair)
     yield from misspelt_words(words, {2: ["PRIMARY", "BACKUP"], 3: ["AFTER"]} if is_pair else {3: ["AFTER"]})
     if len(words) != 5:
         yield words[5] if words[5:] else behind(words[-1]), FAILURES
@@ -288,6 +305,20 @@ def bad_failure_line(deck, line):
     if not is_pair:
         yield from bad_number(words[2], 1, 16)
     yield from bad_number(words[4], 0, 500000)
+
+
+def lacking_word(words, is_pair):
+    """A word that lacks in front of AFTER or of the number after it."""
+    texts = [word.text for word in words]
+    if "AFTER" in texts[2:3]:
+        name, rest = texts[1], " ".join(texts[2:])
+        what = "PRIMARY or BACKUP" if is_pair else "the number of the process"
+        example = f"{texts[0]} {name} {'PRIMARY' if is_pair else '1'} {rest}"
+        yield words[2], f"{what} is missing in front of AFTER: {example}"
+    if len(texts) == 4 and "AFTER" not in texts:
+        yield words[3], f"AFTER is missing in front of {texts[3]}: {' '.join(texts[:3])} AFTER {texts[3]}"
+    if len(texts) == 4 and texts[3] == "AFTER":
+        yield behind(words[3]), "the number of log entries is missing after AFTER"
 
 
 def loose_spaces(text, line):

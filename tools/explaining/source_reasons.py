@@ -5,14 +5,18 @@ import unicodedata
 
 from explaining.branches import Branches, MOST_OPEN
 from explaining.forms import END, forms_of, match, shown_form
+from explaining.missing import section_missing
 from explaining.tokens import Token, behind
-from explaining.words import ADVICE, VERBS, listed, near
+from explaining.words import ADVICE, TABLE, VERBS, listed, near
 
 ARITHMETIC = ("ADD", "SUBTRACT", "MULTIPLY", "DIVIDE")
 INLINE = ADVICE["END-PERFORM"]
 ONE_OPERAND = "{0} takes one operand on each side: write {0} for each"
 BOTH_SIDES = "each comparison names both its sides: A = 1 OR A = 2"
 NO_PERIOD = "no period closes the statement before the paragraph {} in line {}"
+# The words between the parts of a statement: where one stands too early, a part is missing.
+STRUCTURE = ("TO", "FROM", "BY", "INTO", "GIVING", "UNTIL", "TIMES", "USING", "YIELDS", "REPLY", "DEPENDING", "ELSE", "AND", "OR",
+             "IS", "NOT", "THAN", "THEN", "EQUAL", "GREATER", "LESS", "NUMERIC", "END-IF")
 MOST_NAMED = 9999
 PLAIN = "a deck has the characters from space to ~ alone"
 QUOTE = 'a typographic quote: write "'
@@ -62,6 +66,10 @@ def bad_character(deck, line):
     """101"""
     yield from foreign_characters(deck, line)
     for token in tokens_at(deck, line, "bad"):
+        program = deck.program_at(line)
+        verb = next((it for it in tokens_at(deck, line, "word") if it.is_word("COMPUTE")), None)
+        if verb and not program.declares("COMPUTE"):
+            yield token, f"COMPUTE: {ADVICE['COMPUTE']}", *([MARKS[token.text]] if token.text in MARKS else [])
         yield token, MARKS.get(token.text, f"no word, number or mark begins with {token.text}")
 
 
@@ -118,6 +126,7 @@ def misspelt_verb(program, tokens):
 def no_such_form(deck, line):
     """131"""
     for program, piece in pieces_at(deck, line, "statement", "else", "end", "run", "period", "paragraph"):
+        yield from section_missing(deck, line)
         if program.is_before_paragraphs(piece):
             yield piece.first, "the procedure begins with a paragraph: a name and a period"
         elif piece.kind == "run" or piece.kind == "paragraph" and piece.first.is_word("$RECEIVE"):
@@ -155,7 +164,7 @@ def no_verb(program, piece):
     if last.is_word("$RECEIVE"):
         return first, "$RECEIVE is for servers alone"
     if len(piece.tokens) == 1 and program.may_name(first):
-        return first, f"if {first.text} is a paragraph, a period stands behind its name"
+        return first, f"if {first.text} is a paragraph, a period stands after its name"
     if all(program.may_name(token) for token in piece.tokens):
         return first, "the name of a paragraph is one word and a period; a statement begins with a verb"
     return first, f"{first.text} is no verb; the verbs are {own_verbs(program.side)}"
@@ -174,11 +183,33 @@ def no_form(program, piece):
     if told:
         return stop, told, form
     around = piece.tokens[max(1, at - 1) : at + 1]
-    foreign = advised(program, around) or misspelt_verb(program, around)
+    parted = comma_number(program, piece.tokens, at)
+    if parted:
+        return *parted, form
+    foreign = advised(program, piece.tokens[1 : at + 1]) or taken_word(program, piece, at) or misspelt_verb(program, around)
     if foreign:
         return *foreign, form
     here = f"{stop.text} stands" if at < len(piece.tokens) else "the statement ends"
     return stop, f"{here} where {piece.form.wanted} is wanted", form
+
+
+def comma_number(program, tokens, at):
+    """A number that a comma cuts in two, in front of a place."""
+    texts = dict(program.section.lines)
+    for before, token in zip(tokens[: at + 1], tokens[1 : at + 1]):
+        is_pair = before.kind == token.kind == "number" and before.line == token.line and token.column == before.end + 1
+        if is_pair and texts[token.line][before.end - 1] == "," and len(token.text.split(".")[0]) == 3:
+            return before, f"a number has no commas: write {before.text}{token.text}"
+    return None
+
+
+def taken_word(program, piece, at):
+    """A word of the language that stands where a name is wanted."""
+    for token in piece.tokens[max(1, at - 1) : at + 1]:
+        is_name = token.is_word("ONE") or any(it in piece.form.wanted for it in ("an item", "a paragraph", "a screen", "a number"))
+        if token.kind == "word" and token.upper in TABLE[program.side] and is_name and token.upper not in (*VERBS, *STRUCTURE):
+            return token, f"{token.upper} is a word of the language, so no item, paragraph or screen has this name: take another"
+    return None
 
 
 def takes_heading(program, piece):
@@ -199,12 +230,12 @@ def special(program, piece, at):
         (" NOT ON SIZE " in spelled or " NOT SIZE " in spelled, "write ELSE in place of NOT ON SIZE ERROR"),
         (stop == "OR" and words[at - 1] in ("THAN", "LESS", "GREATER"), "write >= or <="),
         (wanted.startswith("a comparison") and {"AND", "OR"} & set(words[:at]), BOTH_SIDES),
-        (verb == "IF" and stop == "NOT" and at == 1, "NOT stands behind the first operand: A NOT = B"),
+        (verb == "IF" and stop == "NOT" and at == 1, "NOT stands after the first operand: A NOT = B"),
         (verb == "DIVIDE" and stop == "BY", "write DIVIDE divisor INTO item"),
         (verb in ARITHMETIC and is_operand and (wanted == END or wanted in words[at:]), ONE_OPERAND.format(verb)),
         (verb == "DISPLAY" and is_operand and wanted == END, "DISPLAY shows one operand: MOVE all to a group, and show that"),
         (verb == "PERFORM" and at == 1 and (stop in ("UNTIL", "TIMES", "") or is_literal), INLINE),
-        (" AT END " in spelled, "AT END: look at FILE-STATUS behind the statement"),
+        (" AT END " in spelled, "AT END: look at FILE-STATUS after the statement"),
         (stop == "END", "END-IF is one word"),
         (stop == "OF" and verb != "PERFORM", "names are not qualified by OF: give each item a name of its own"),
         (verb == "STOP" and at == 1, "write STOP RUN"),

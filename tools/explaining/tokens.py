@@ -1,4 +1,4 @@
-"""The tokens of a source text (docs/WORDS.md), each with its line and its column from 1."""
+"""The tokens of a source text (docs/reference/LANGUAGE.md), each with its line and its column from 1."""
 import re
 from typing import NamedTuple
 
@@ -24,7 +24,7 @@ class Token(NamedTuple):
 
     @property
     def end(self):
-        """The column behind the token."""
+        """The column after the token."""
         return self.column + len(self.text)
 
     def is_word(self, *words):
@@ -39,12 +39,12 @@ class Token(NamedTuple):
 
 
 def behind(token):
-    """The place behind a token."""
+    """The place after a token."""
     return Token("end", " ", token.line, token.end)
 
 
 def picture_tokens(text, at, line):
-    """The picture at a place behind PIC, and the period behind it."""
+    """The picture at a place after PIC, and the period after it."""
     found = PICTURE.match(text, at)
     run, column = found[1], found.start(1) + 1
     if run == ".":
@@ -57,7 +57,7 @@ def picture_tokens(text, at, line):
 
 
 def picture_begins(tokens, text, at):
-    """Whether a picture stands behind the tokens of a line: behind PIC, or behind the IS that follows it."""
+    """Whether a picture stands after the tokens of a line: after PIC, or after the IS that follows it."""
     words = [token.upper if token.kind == "word" else "" for token in tokens[-2:]]
     behind_is = words[-1:] == ["IS"] and words[0] in PIC
     behind_pic = words[-1:] and words[-1] in PIC and not re.match(" *IS(?![A-Za-z0-9-])", text[at:], re.I)

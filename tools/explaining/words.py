@@ -1,4 +1,5 @@
-"""The words of the language (docs/WORDS.md), those of COBOL that it lacks with what to write in their place, and near names."""
+"""The words of the language (docs/reference/LANGUAGE.md), those of COBOL that it lacks with what to write in their place, and near
+names."""
 import difflib
 
 VERBS = """ACCEPT ABORT-TRANSACTION ADD BEGIN-TRANSACTION CALL DELETE DISPLAY DIVIDE END-TRANSACTION EXIT IF MOVE MULTIPLY
@@ -21,7 +22,7 @@ LONE_WORDS = frozenset("""CONTINUE GOBACK STOP-RUN STOPRUN EXIT-PROGRAM ENDIF CO
     ROLLBACK-TRANSACTION BACKOUT BACKOUT-TRANSACTION END-PERFORM END-EVALUATE END-READ END-WRITE END-REWRITE END-DELETE END-ADD
     END-SUBTRACT END-MULTIPLY END-DIVIDE END-CALL END-SEND END-ACCEPT END-DISPLAY""".split())
 
-NO_PHRASE = "statements have no phrases for this: look at FILE-STATUS behind the statement"
+NO_PHRASE = "statements have no phrases for this: look at FILE-STATUS after the statement"
 NO_INLINE = "statements cannot stand inside a PERFORM: make them a paragraph, and PERFORM that"
 NO_TEXTS = "there is none: MOVE the text to a group whose items are the parts, or the parts to such a group"
 NO_USAGE = "leave it out: a number is kept as its digits"
@@ -42,6 +43,7 @@ LACKING = {
     "STOP-RUN STOPRUN": "write STOP RUN",
     "EXIT-PROGRAM": "write EXIT PROGRAM",
     "ENDIF": "write END-IF",
+    "ELSEIF ELSIF ELIF ELSE-IF": "write ELSE IF, two words",
     "CONTINUE SENTENCE": "leave it out, or write EXIT, which does nothing",
     "INITIALIZE": "MOVE SPACES to a text, and ZEROS to each number",
     "INSPECT STRING UNSTRING DELIMITED TALLYING REPLACING POINTER": NO_TEXTS,
@@ -72,7 +74,7 @@ LACKING = {
     "CORRESPONDING CORR": "MOVE each item, or the whole group where both are built the same way",
     "IN": "names are not qualified: give each item a name of its own",
     "UPON ADVANCING": "leave it out: DISPLAY shows on row 24 of the terminal",
-    "ESCAPE": "name the key behind UNTIL, and look at TERMINATION-STATUS",
+    "ESCAPE": "name the key after UNTIL, and look at TERMINATION-STATUS",
     "CLEAR ERASE": "write DISPLAY BASE screen, which clears the terminal first",
     "RECOVERY TURN RESET SCROLL DELAY PRINT TEMP": "there is none: DISPLAY BASE screen, DISPLAY screen and DISPLAY item are all",
     "REDEFINES": "there is none: MOVE the item to another group of the same length",
@@ -83,7 +85,7 @@ LACKING = {
     "JUSTIFIED JUST SYNC SYNCHRONIZED EXTERNAL GLOBAL ASCENDING DESCENDING": "leave it out: there is none",
     "INDEXED INDEX": "leave it out: a subscript is a number, or an item that is a number without a sign",
     "BLANK": "leave it out: a Z in the picture of a field shows a leading zero as a space",
-    "VALUES": "write VALUE, with one text or one number behind it",
+    "VALUES": "write VALUE, with one text or one number after it",
     "ALL": "there is none: write the whole text in quotes",
     "LINE COLUMN COL PLUS": NO_PAGE,
     """HIGHLIGHT LOWLIGHT REVERSE-VIDEO REVERSED UNDERLINE BLINK BLINKING SECURE HIDDEN REQUIRED AUTO FULL PROTECTED UNPROTECTED

@@ -1,5 +1,5 @@
 " Vim syntax file
-" Language: decks of pathway (docs/DECK.md, docs/WORDS.md)
+" Language: decks of pathway (docs/reference/DECK.md, docs/reference/LANGUAGE.md)
 "
 " A section goes up to the next line that begins with `?`. What the language refuses by its form has no colour, and
 " neither has a name where it is used. Groups that begin with pathwayIn have no colour: they say where a line stands.
