@@ -2,7 +2,10 @@
 
 ghost use Rattle.std.specs.Prelude.{[]};
 
-use crate::answers::{fault_line, of_fault, of_opening};
+use crate::answers::{
+    StoreAnswer, StorePart, TrailDisk, of_damage, of_disk, of_fault, of_opening, of_status, plain,
+};
+use crate::opened::{OpenStore, StoreNotOpened, open_store};
 use crate::words::StoreWords;
 use pw_base::bytes::Bytes;
 use pw_base::fault::{Fault, Refusal};
@@ -13,9 +16,7 @@ use pw_base::write_sink::WriteSink;
 use pw_code::system::System;
 use pw_compiled_deck::deck::read;
 use pw_file_disk::fault::OpenFailed;
-use pw_file_disk::file_disk::FileDisk;
-use pw_file_disk::host::HostFile;
-use pw_file_disk::open::open;
+use pw_file_disk::folder::HostFolder;
 use pw_group_commit::follower::{Follower, NoFollower};
 use pw_group_commit::lines::{LineFault, LineFollower};
 use pw_input_output::input::read_input;
@@ -23,10 +24,6 @@ use pw_input_output::status::Status;
 use pw_store_runs::asked::FollowedRun;
 use pw_store_runs::ending::{StoreFault, Stored};
 use pw_store_runs::store::run_stored;
-use pw_summed_disk::extent::{SHUT, piece_in, seal};
-use pw_summed_disk::fault::SumFault;
-use pw_summed_disk::summed_disk::SummedDisk;
-use pw_volume::disk::Disk;
 use pw_workers::gate::NoGate;
 use std::alloc::Global;
 use std::io::Stdout;
@@ -37,12 +34,16 @@ use std::thread::Threads;
 /// Why a call has no text of its own.
 #[derive(Drop)]
 enum StoreCallFault {
-    /// The source failed, memory ran out, or the disk has failed.
+    /// The source failed, or memory ran out.
     Status(Status),
-    /// A file of the store was not opened.
-    Opening(OpenFailed),
+    /// The folder is in use, or could not be opened.
+    Folder(OpenFailed),
+    /// The store in it was not opened.
+    Opening(StoreNotOpened),
     /// The deck was not run.
-    Store(StoreFault<SummedDisk<FileDisk<HostFile>>>),
+    Store(StoreFault<TrailDisk>),
+    /// The disk failed in the run.
+    Disk(TrailDisk),
 }
 
 /// A deck without a fault.
@@ -53,28 +54,47 @@ struct OwnDeck {
     terminals: Vec<Bytes>,
 }
 
-/// Runs the deck of the source over the store in a folder: the exit status and the text. Where the words say so, each unit is told
+/// Runs the deck of the source over the store in a folder: what the call answers. Where the words say so, each unit is told
 /// on standard output once it is settled. It may wait for a thread.
 pub fn run_in_folder<S: Source, R: Threads + Wait + Sync>(
     rt: &R,
     host: &HostRuntime,
     words: &StoreWords,
     source: &mut S,
-) -> (u8, Bytes) {
+) -> StoreAnswer {
     let alloc = host.alloc();
     let told = match run_deck(rt, host, alloc, words, source) {
-        Ok(told) => Ok(told),
-        Err(StoreCallFault::Status(status)) => Ok((status.number(), Bytes::new(alloc))),
-        Err(StoreCallFault::Opening(failed)) => of_opening(alloc, failed),
-        Err(StoreCallFault::Store(fault)) => of_fault(alloc, fault),
+        Ok((number, text)) => Ok(plain(alloc, number, text)),
+        Err(fault) => of_call_fault(alloc, fault),
     };
     match told {
         Ok(told) => told,
-        Err(Memory) => (Status::Memory.number(), Bytes::new(alloc)),
+        Err(Memory) => of_status(alloc, Status::Memory),
     }
 }
 
-/// The same, or why there is no report.
+/// The answer of a call that has no text of its own.
+fn of_call_fault(alloc: Global, fault: StoreCallFault) -> Result<StoreAnswer, Memory> {
+    match fault {
+        StoreCallFault::Status(status) => Ok(of_status(alloc, status)),
+        StoreCallFault::Folder(failed) => of_opening(alloc, StorePart::Folder, failed),
+        StoreCallFault::Opening(StoreNotOpened::Opening(part, failed)) => {
+            of_opening(alloc, part, failed)
+        }
+        StoreCallFault::Opening(StoreNotOpened::Damaged(part)) => of_damage(alloc, part),
+        StoreCallFault::Opening(StoreNotOpened::DamagedAt(at)) => {
+            of_fault(alloc, StoreFault::Damaged { at })
+        }
+        StoreCallFault::Opening(StoreNotOpened::Disk(_failed)) => {
+            Ok(of_status(alloc, Status::DiscFault))
+        }
+        StoreCallFault::Opening(StoreNotOpened::Memory) => Err(Memory),
+        StoreCallFault::Store(fault) => of_fault(alloc, fault),
+        StoreCallFault::Disk(disk) => of_disk(alloc, &disk),
+    }
+}
+
+/// The exit status and the text, or why there is no report.
 fn run_deck<S: Source, R: Threads + Wait + Sync>(
     rt: &R,
     host: &HostRuntime,
@@ -111,7 +131,8 @@ fn run_deck<S: Source, R: Threads + Wait + Sync>(
     }
 }
 
-/// Runs a deck with a follower: the exit status, the text, and the follower as the run left it.
+/// Runs a deck with a follower: the exit status, the text, and the follower as the run left it. The folder is locked from before
+/// its first file is opened to the end of the run.
 fn run_followed<F: Follower + Send, R: Threads + Wait + Sync>(
     rt: &R,
     host: &HostRuntime,
@@ -122,20 +143,22 @@ fn run_followed<F: Follower + Send, R: Threads + Wait + Sync>(
 ) -> Result<(u8, Bytes, F), StoreCallFault>
     requires { F.was_told follower [] }
 {
-    let folder = words.folder.as_str();
-    let first = first_deck(host, alloc, folder, deck)?;
-    let file = open(host, alloc, folder, "trail", &SHUT).map_err(StoreCallFault::Opening)?;
-    let disk = summed(alloc, file)?;
+    let folder = HostFolder::open(host, alloc, words.folder.as_str()).map_err(
+        StoreCallFault::Folder,
+    )?;
+    let OpenStore { first, trail } = open_store(host, alloc, &folder, deck).map_err(
+        StoreCallFault::Opening,
+    )?;
     let run = FollowedRun {
         bounds: words.bounds,
         gate: &NoGate,
         follower,
     };
-    match run_stored(rt, alloc, first.as_slice(), deck, disk, run) {
+    match run_stored(rt, alloc, first.as_slice(), deck, trail, run) {
         Ok(Stored::Ended(ended, text, _disk, follower)) => {
             Ok((ended.status().number(), text, follower))
         }
-        Ok(Stored::Failed(_disk, _follower)) => Err(StoreCallFault::Status(Status::DiscFault)),
+        Ok(Stored::Failed(disk, _follower)) => Err(StoreCallFault::Disk(disk)),
         Err(fault) => Err(StoreCallFault::Store(fault)),
     }
 }
@@ -168,53 +191,4 @@ fn terminals_of(alloc: Global, system: &System) -> Result<Vec<Bytes>, Memory> {
         names.push(Bytes::from_slice(alloc, terminal.name.as_slice())?)?;
     }
     Ok(names)
-}
-
-/// The bytes of the deck with which the store began, which is this one where the folder has none. They are sealed in their
-/// file, and refused where their sum is amiss.
-fn first_deck(
-    host: &HostRuntime,
-    alloc: Global,
-    folder: &str,
-    deck: &[u8],
-) -> Result<Bytes, StoreCallFault> {
-    let Ok(sealed) = seal(alloc, deck) else {
-        return Err(StoreCallFault::Status(Status::Memory));
-    };
-    let mut disk = open(host, alloc, folder, "deck", sealed.as_slice()).map_err(
-        StoreCallFault::Opening,
-    )?;
-    let Ok(length) = disk.length() else {
-        return Err(StoreCallFault::Status(Status::DiscFault));
-    };
-    let Ok(mut bytes) = vec![in alloc; 0u8; length as usize] else {
-        return Err(StoreCallFault::Status(Status::Memory));
-    };
-    let Ok(()) = disk.read(0, bytes.as_mut_slice()) else {
-        return Err(StoreCallFault::Status(Status::DiscFault));
-    };
-    let Some(first) = piece_in(bytes.as_slice()) else {
-        return Err(StoreCallFault::Store(StoreFault::NoStore));
-    };
-    match Bytes::from_slice(alloc, first) {
-        Ok(first) => Ok(first),
-        Err(Memory) => Err(StoreCallFault::Status(Status::Memory)),
-    }
-}
-
-/// The disk of the trail, over its file. It is refused where a sum is amiss.
-fn summed<P: Disk>(alloc: Global, file: P) -> Result<SummedDisk<P>, StoreCallFault> {
-    match SummedDisk::open(alloc, file) {
-        Ok(disk) => Ok(disk),
-        Err((_file, fault)) => Err(of_sums(fault)),
-    }
-}
-
-/// Why the disk of the trail was not opened.
-fn of_sums(fault: SumFault) -> StoreCallFault {
-    match fault {
-        SumFault::Damaged { at } => StoreCallFault::Store(StoreFault::Damaged { at }),
-        SumFault::Failed => StoreCallFault::Status(Status::DiscFault),
-        SumFault::Memory => StoreCallFault::Status(Status::Memory),
-    }
 }

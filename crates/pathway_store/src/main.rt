@@ -4,11 +4,14 @@
 
 mod answers;
 mod folder;
+mod opened;
 mod words;
 
+use crate::answers::StoreAnswer;
 use crate::folder::run_in_folder;
 use crate::words::store_words;
 use pw_base::read_source::ReadSource;
+use pw_base::write_all::write_all_of;
 use pw_base::write_sink::WriteSink;
 use pw_input_output::output::written;
 use pw_input_output::status::Status;
@@ -27,7 +30,12 @@ fn main(rt: HostRuntime) -> ExitCode {
         }
         Err(status) => return ExitCode::from(status.number()),
     };
-    let (number, text) = run_in_folder(&rt, &rt, &words, &mut source);
+    let StoreAnswer {
+        number,
+        text,
+        cause,
+    } = run_in_folder(&rt, &rt, &words, &mut source);
+    let _told = write_all_of(&mut WriteSink::new(rt.stderr()), cause.as_slice());
     match written(&mut sink, Status::Finished, text.as_slice()) {
         Status::Finished => ExitCode::from(number),
         status => ExitCode::from(status.number()),

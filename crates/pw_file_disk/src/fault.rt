@@ -1,16 +1,52 @@
 use pw_base::memory::Memory;
 use std::alloc::{AllocError, AllocFailed};
-use std::fs::TryLockError;
 use std::io;
 use thiserror::Error;
 
-/// Why a disk over a file was not opened.
-#[derive(Clone, Copy, Debug, Drop, Error)]
+/// What a call of the system was to do with a file or a folder.
+#[derive(Clone, Copy, Debug, PartialEq, Eq, Error)]
+pub enum FileAction {
+    #[error("open")]
+    Open,
+    #[error("lock")]
+    Lock,
+    #[error("look at")]
+    Find,
+    #[error("read")]
+    Read,
+    #[error("make")]
+    Make,
+    #[error("give mode and owner to")]
+    GiveAccess,
+    #[error("write")]
+    Write,
+    #[error("cut")]
+    Cut,
+    #[error("sync")]
+    Sync,
+    #[error("rename")]
+    Rename,
+    #[error("remove")]
+    Remove,
+    #[error("sync the folder of")]
+    SyncFolder,
+}
+
+/// A call of the system that failed, and why.
+#[derive(Clone, Copy, Debug, Error)]
+#[error("{action}: {error}")]
+pub struct FileFailure {
+    pub action: FileAction,
+    pub error: io::Error,
+}
+
+/// Why a file of a folder was not opened or made.
+#[derive(Clone, Copy, Debug, Error)]
 pub enum OpenFailed {
-    /// The folder or the file is locked by another process, or by another disk of this one.
+    /// The folder is locked by another process, or by another call of this one.
     #[error("it is in use")]
     InUse,
-    /// What has the name is no regular file.
+    /// What has the name is no regular file, or what should be a folder is none.
     #[error("it is no file")]
     NoFile,
     /// Memory ran out.
@@ -18,21 +54,14 @@ pub enum OpenFailed {
     Memory,
     /// A call of the system failed.
     #[error("{0}")]
-    System(io::Error),
+    System(FileFailure),
 }
 
-impl From<io::Error> for OpenFailed {
-    fn from(error: io::Error) -> OpenFailed {
-        OpenFailed::System(error)
-    }
-}
-
-impl From<TryLockError> for OpenFailed {
-    fn from(error: TryLockError) -> OpenFailed {
-        match error {
-            TryLockError::WouldBlock => OpenFailed::InUse,
-            TryLockError::Error(error) => OpenFailed::System(error),
-        }
+/// What a call of the system answered, or that it failed.
+pub(crate) fn during<T: Drop>(action: FileAction, answer: io::Result<T>) -> Result<T, OpenFailed> {
+    match answer {
+        Ok(value) => Ok(value),
+        Err(error) => Err(OpenFailed::System(FileFailure { action, error })),
     }
 }
 

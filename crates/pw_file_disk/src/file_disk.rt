@@ -3,6 +3,8 @@ ghost use Rattle.pw_volume.specs.Crash.{written, CountsFaults};
 ghost use Rattle.pw_file_disk.specs.FileDisk.{IsMirror, opened_with};
 
 use crate::change::OpenChange;
+use crate::fault::FileFailure;
+use crate::host::HostFile;
 use crate::raw::RawFile;
 use pw_base::memory::Memory;
 use pw_volume::disk::Disk;
@@ -193,5 +195,12 @@ impl<F: RawFile + Send> Disk for FileDisk<F> {
         self.change = None;
         self.settled = Snapshot::of(&self.bytes);
         Ok(())
+    }
+}
+
+impl FileDisk<HostFile> {
+    /// The first call of the system that failed, if one did, and why.
+    pub fn failure(&self) -> Option<FileFailure> {
+        self.file.failure()
     }
 }

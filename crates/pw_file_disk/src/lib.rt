@@ -4,6 +4,7 @@
 pub mod change;
 pub mod fault;
 pub mod file_disk;
+pub mod folder;
 pub mod host;
 pub mod open;
 pub mod raw;
