@@ -1,5 +1,5 @@
 #!/usr/bin/env bash
-# Whether the prover refuses the edits that the gate does not try, those of bench/edits (docs/EDITS.md): of the crates that are
+# Whether the prover refuses the edits that the gate does not try, those of bench/edits (CONTRIBUTING.md): of the crates that are
 # named, or of all that have some. It works in a clone of what is committed, with bench/edits/CRATE in place of what stands in
 # crates/CRATE/must-fail, prints a line for each edit, and fails where one is not refused. `rt must-fail` proves the libraries
 # below a crate first, one after another: that takes long, some hours for all of them from nothing. It is no part of the gate.

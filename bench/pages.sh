@@ -1,8 +1,14 @@
 #!/usr/bin/env bash
-# Whether the pages name what is there: each file and link of README.md and docs/ exists, each name that has a file beside it
-# stands in that file, each contract that carries a claim stands in one of the files of the claim, and each other name of code is
-# one of the sources. A row of a table that begins with crates is about these, and so is what stands below a heading of crates:
-# its files are theirs. Each word of docs/GLOSSARY.md has a name with its file, and the words are in order.
+# Whether the pages name what is there, and are written as pages are. The pages are README.md, CHANGELOG.md, CONTRIBUTING.md and
+# those of the folders of docs/.
+# - Each file that is named exists, and each link leads to a file and, where it names one, to a heading there.
+# - Each name that has a file beside it (`Name` in `file.rt`, or `Name`, `file.rt`, or a link [`Name`](file.rt)) stands in that
+#   file, and each other name of code is one of the sources. A row of a table that begins with crates is about these.
+# - Each word of docs/proof/GLOSSARY.md has a name with its file, and the words are in order.
+# - The first line under the title names the page's reader: it has the word "for". README.md is for everybody.
+# - "behind" is said of places, and not for "after": only in the phrases of PLACES.
+# - The tables of docs/design/ARCHITECTURE.md are those of crates.txt (bench/map), and docs/proof/PROVED.md is what
+#   bench/proved.py makes.
 #
 # And whether each name with a capital is that of one crate alone: no two crates define a proposition, a record or a type of one
 # name, but for those that are listed here. It prints what is not so, and then fails.
@@ -35,42 +41,24 @@ FREE = {"CRATE", "FILE", "LegalKIND", "do_kind", "ISX", "perf", "ENTERED"}
 PATH = r"[\w/-]*\w\.(?:rt|antt|md|deck|out|sh|py|edit|html|schedule)\b"
 # One name or several, and the file that they stand in.
 BESIDE = re.compile(r"((?:`[\w:]+`, )*`[\w:]+`)(?:,? in|,) `?((?:[\w-]+/)*\w+\.(?:rt|antt))\b")
-# What carries a claim, and the files of that.
-CLAIM = re.compile(r"\*\*by\*\* (.*?) — \*\*in\*\* ([^;]*)")
 # Crates, or modules of them, side by side.
 HEADED = r"((?:`\w+(?:::\w+)*`(?:, )?)+)"
+# What a page may say with "behind".
+PLACES = r"behind (?:a|the) (?:door|lock|scenes?)\b"
+# The page that a script makes of the comments in the sources, whose words are theirs.
 
 
 def candidates(path, crates=()):
-    """The files that a path may mean: from the root, from docs/, or behind any folder, of these crates where they have it."""
+    """The files that a path may mean: from the root, or below any folder, of these crates where they have it."""
     found = ENDS.get(os.path.normpath(path).lstrip("./"), [])
     return [it for it in found if it.split("/")[1:2] and it.split("/")[1] in crates] or found
 
 
 def lines_of(page):
-    """Each line with its number and the crates that it is about: those of its table's row, or those of the heading above it."""
-    crates = below = ()
+    """Each line with its number and the crates that its row of a table is about."""
     for number, line in enumerate(open(page).read().split("\n"), 1):
         row = re.match(rf"\| {HEADED} \|", line)
-        heading = re.fullmatch(rf"### {HEADED}", line)
-        said = CRATES.intersection(re.findall(r"`(\w+)", (row or heading or ["", ""])[1]))
-        if line.startswith("#"):
-            below = said
-        crates = said or crates if line.startswith("|") else below
-        yield number, line, crates
-
-
-def pieces_of(page):
-    """These lines, where those of one claim about a crate are one that has the number of the first."""
-    piece = None
-    for number, line, crates in lines_of(page):
-        if piece and crates and piece[1].startswith("- ") and line.startswith("  "):
-            piece = (piece[0], f"{piece[1]} {line.strip()}", crates)
-            continue
-        if piece:
-            yield piece
-        piece = (number, line, crates)
-    yield piece
+        yield number, line, CRATES.intersection(re.findall(r"`(\w+)", row[1] if row else ""))
 
 
 def stands(name, files):
@@ -81,24 +69,25 @@ def stands(name, files):
 def faults(page):
     whole = open(page).read()
     named = set(re.findall(r"\b(?:pw_\w+|pathway)\b", whole))
-    for number, line, crates in pieces_of(page):
+    for number, line, crates in lines_of(page):
         for path in re.findall(PATH, line):
             if not FREE & set(re.split(r"[/.]", path)) and path != "src/M.rt" and not candidates(path):
                 yield number, f"no file {path}"
             if crates and path.startswith(("src/", "specs/")) and not any(it.split("/")[1] in crates for it in candidates(path, crates)):
                 yield number, f"no file {path} in {' and '.join(sorted(crates))}"
-        for carried, where in CLAIM.findall(line):
-            files = [it for path in re.findall(PATH, where) for it in candidates(path, crates)]
-            for name in re.findall(r"`([\w:]+)`", carried):
-                if files and not stands(name, files):
-                    yield number, f"no {name} in {' or '.join(re.findall(PATH, where))}"
         row = re.match(r"\| `([\w/]+\.(?:rt|antt))` \| (.*) \|$", line)
         for name in re.findall(r"`([\w:]+)`", row[2]) if row else ():
             if not stands(name, [row[1]]):
                 yield number, f"no {name} in {row[1]}"
-        for link in re.findall(r"\]\(([^)#:]+)\)", line):
-            if not os.path.exists(os.path.join(os.path.dirname(page), link)):
+        for link, heading in re.findall(r"\]\(([^)#:]*)(#[^)]*)?\)", line):
+            target = os.path.normpath(os.path.join(os.path.dirname(page), link)) if link else page
+            if not os.path.exists(target):
                 yield number, f"no page {link}"
+            elif heading and heading[1:] not in headings(target):
+                yield number, f"no heading {heading[1:]} in {target}"
+        for name, link in re.findall(r"\[`([\w:]+)`\]\(([^)#:]+\.(?:rt|antt))\)", line):
+            if not stands(name, [os.path.normpath(os.path.join(os.path.dirname(page), link))]):
+                yield number, f"no {name} in {link}"
         for names, path in BESIDE.findall(line):
             files = candidates(path, crates or named)
             for name in re.findall(r"[\w:]+", names):
@@ -118,6 +107,24 @@ def faults(page):
                 yield whole[: found.start()].count("\n") + 1, f"no name {found[1]}"
 
 
+def headings(page):
+    """The headings of a page, as links name them."""
+    text = re.sub(r"```.*?```", "", open(page).read(), flags=re.S)
+    for heading in re.findall(r"^#+ (.*)$", text, flags=re.M):
+        yield re.sub(r"[^\w -]", "", heading.strip().lower()).replace(" ", "-")
+
+
+def word_faults(page):
+    """Where a page does not name its reader, or says behind for after; code is not looked at."""
+    lines = re.sub(r"```.*?```", lambda it: "\n" * it[0].count("\n"), open(page).read(), flags=re.S).split("\n")
+    first = next((it for it in enumerate(lines[1:], 2) if it[1]), (1, ""))
+    if page != "README.md" and not re.search(r"\bfor\b", first[1], flags=re.I):
+        yield first[0], "the first line under the title names no reader"
+    for number, line in enumerate(lines, 1):
+        if re.search(r"\bbehind\b", re.sub(rf"`[^`]*`|{PLACES}", "", line), flags=re.I):
+            yield number, "behind stands for after"
+
+
 def glossary_faults(page):
     """The words of the glossary that have no name with its file, or are not in their order."""
     rows = [(number, line) for number, line in enumerate(open(page).read().split("\n"), 1) if line.startswith("| ")][1:]
@@ -127,7 +134,7 @@ def glossary_faults(page):
         if not BESIDE.search(line):
             yield number, f"no name with its file for {word}"
         if before.lower() >= word.lower():
-            yield number, f"{word} stands behind {before}"
+            yield number, f"{word} stands after {before}"
         before = word
 
 
@@ -144,11 +151,13 @@ def shared_names():
             yield from ((*place, f"{name} is defined in {' and '.join(crates)}") for place in places)
 
 
-told = sorted({(page, *fault) for page in [it for it in FILES if re.fullmatch(r"README\.md|docs/\w+\.md", it)] for fault in faults(page)})
-told += [("docs/GLOSSARY.md", *fault) for fault in glossary_faults("docs/GLOSSARY.md")] + sorted(shared_names())
+PAGES = [it for it in FILES if re.fullmatch(r"(?:README|CHANGELOG|CONTRIBUTING)\.md|docs/\w+/\w+\.md", it)]
+GLOSSARY = "docs/proof/GLOSSARY.md"
+told = sorted({(page, *fault) for page in PAGES for look in (faults, word_faults) for fault in look(page)})
+told += [(GLOSSARY, *fault) for fault in glossary_faults(GLOSSARY)] + sorted(shared_names())
 for page, number, fault in told:
     print(f"{page}:{number}: {fault}", flush=True)
-# And whether the tables of docs/MAP.md are those of crates.txt.
-has_other_map = subprocess.run(["docs/map", "--check"]).returncode
-sys.exit(bool(told or has_other_map))
+# And whether the pages that scripts write are those that they would write.
+others = [subprocess.run([script, "--check"]).returncode for script in ("bench/map", "bench/proved.py")]
+sys.exit(bool(told or any(others)))
 END

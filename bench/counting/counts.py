@@ -2,7 +2,7 @@
 import concurrent.futures, os, pathlib, re, shutil, subprocess, sys, tempfile
 
 TOP = pathlib.Path(__file__).resolve().parent.parent.parent
-PAGE = TOP / "docs/SPEED.md"
+PAGE = TOP / "docs/design/SPEED.md"
 # How much above the page a count may be.
 MOST = 1.1
 
@@ -211,7 +211,7 @@ def main(words):
                 passed += 1
             else:
                 failed += 1
-                print(f"{name}: {count:,.0f}, more than a tenth above {page.get(name, 0):,} of docs/SPEED.md")
+                print(f"{name}: {count:,.0f}, more than a tenth above {page.get(name, 0):,} of docs/design/SPEED.md")
     if compares:
         print(f"{passed} passed, {failed} failed")
     return 1 if failed else 0

@@ -137,7 +137,7 @@ def of_sections():
 
 
 def of_logs(deck):
-    """Logs as long as they may be behind a deck without a fault."""
+    """Logs as long as they may be after a deck without a fault."""
     log = deck[: deck.rindex(b"?END")] + b"?LOG\n"
     header = log + b"PATHWAY LOG 2\n"
     yield "log_shows", lambda: shows(header, 500000)
@@ -148,7 +148,7 @@ def of_logs(deck):
 
 
 def of_scripts(deck):
-    """Disc scripts behind a deck without a fault."""
+    """Disc scripts after a deck without a fault."""
     yield "lines_of_the_disc", lambda: filled(deck, b"DISC PRIMARY HELD 1\n", b"")
     yield "no_lines_of_the_disc", lambda: filled(deck, b"\n", b"")
     yield "one_line_of_the_disc", lambda: filled(deck, b"D", b"")

@@ -98,7 +98,7 @@ class Runner:
         return f"has status {answer.status} and the text {answer.text[:60]!r}, not those of the deck"
 
     def try_case(self, pool, case, most):
-        """Refuses the allocations of a case, each alone and each with all behind it; gives what it counted."""
+        """Refuses the allocations of a case, each alone and each with all after it; gives what it counted."""
         whole = self.run(case, 0, 0)
         numbers = range(1, whole.asked + 1)
         if not case.is_whole and len(numbers) > most:
